@@ -1,0 +1,12 @@
+//! Words, lines and files of statements; the shelf that files come from, and the sinks that text goes to.
+#![tactic(auto)]
+
+mod fault;
+mod list;
+mod memory;
+mod word;
+
+pub use fault::{Counted, FileFault, Part, Stop, TextFault};
+pub use list::{Bytes, List};
+pub use memory::Memory;
+pub use word::{Word, is_name_text, is_word_text};

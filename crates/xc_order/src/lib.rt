@@ -1,0 +1,6 @@
+//! The order that pairs of elements span, with its bounds and its height.
+#![tactic(auto)]
+
+mod order;
+
+pub use order::Pair;

@@ -1,0 +1,5 @@
+pub mod Orders
+pub mod Bounds
+pub mod Lattices
+pub mod Chains
+pub mod Laws
