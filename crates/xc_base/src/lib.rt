@@ -2,11 +2,13 @@
 #![tactic(auto)]
 
 mod fault;
+mod lines;
 mod list;
 mod memory;
 mod word;
 
 pub use fault::{Counted, FileFault, Part, Stop, TextFault};
+pub use lines::{Line, Token};
 pub use list::{Bytes, List};
 pub use memory::Memory;
 pub use word::{Word, is_name_text, is_word_text};
