@@ -3,5 +3,7 @@
 
 
 mod law;
+mod statement;
 
 pub use law::Law;
+pub use statement::Statement;
