@@ -1,3 +1,5 @@
 pub mod Formats
+pub mod Shelves
+pub mod Sinks
 pub mod Text
 pub mod Words

@@ -5,10 +5,14 @@ mod fault;
 mod lines;
 mod list;
 mod memory;
+mod shelf;
+mod sink;
 mod word;
 
 pub use fault::{Counted, FileFault, Part, Stop, TextFault};
 pub use lines::{Line, Token};
 pub use list::{Bytes, List};
 pub use memory::Memory;
+pub use shelf::{LoadFault, Shelf};
+pub use sink::{Sink, SinkFault, put_all};
 pub use word::{Word, is_name_text, is_word_text};

@@ -1,0 +1,37 @@
+-- What is known of a sink of bytes, and what writing does to it.
+use Rattle.std.specs.Prelude.{◌≡◌, ◌<◌, ◌≤◌, ℕ, ◌+◌, List, ◌++◌, take, length, Option, Some, None, option_map, Result, Ok, Err}
+use Rattle.xc_base.specs.declared.sink.SinkFault.{SinkFault}
+
+-- A sink may tell the bytes that were written or not. It counts its faults, and how often it found no memory.
+pub record Sunk : Type 0 where
+  pub bytes : Option (List ℕ)
+  pub faults : ℕ
+  pub wants : ℕ
+
+-- what a sink tells after a put of that piece, of which it took a front or nothing
+abbrev pub written_after : Option (List ℕ) → List ℕ → Result ℕ SinkFault → Option (List ℕ)
+written_after None piece result = None
+written_after (Some bytes) piece (Ok k) = Some (bytes ++ take k piece)
+written_after (Some bytes) piece (Err e) = Some bytes
+
+-- new is old and a front of the text
+pub record IsFront (text old new : List ℕ) : Type 0 where
+  pub keeps : length old ≤ length new
+  pub front : new ≡ take (length new) (old ++ text)
+
+-- where bytes are told: the whole text is added; a front of it that lacks something; a front of it, maybe all; nothing
+abbrev pub AddsWhole : List ℕ → Option (List ℕ) → Option (List ℕ) → Type 0
+AddsWhole text old new = new ≡ option_map (λ bytes. bytes ++ text) old
+
+abbrev pub AddsPart : List ℕ → Option (List ℕ) → Option (List ℕ) → Type 0
+AddsPart text None new = new ≡ None
+AddsPart text (Some old) None = ⊥
+AddsPart text (Some old) (Some new) = IsFront text old new × (length new < length old + length text)
+
+abbrev pub AddsFront : List ℕ → Option (List ℕ) → Option (List ℕ) → Type 0
+AddsFront text None new = new ≡ None
+AddsFront text (Some old) None = ⊥
+AddsFront text (Some old) (Some new) = IsFront text old new
+
+abbrev pub AddsNothing : Option (List ℕ) → Option (List ℕ) → Type 0
+AddsNothing old new = new ≡ old
