@@ -1,12 +1,10 @@
 -- What is known of a shelf of files, and what a load does to it.
-use Rattle.std.specs.Prelude.{◌≡◌, ℕ, ◌+◌, ◌-◌, ◌^◌, Bool, true, ◌||◌, ◌==◌, nat_lt, if◌then◌else◌, List, [], ◌∷◌, ◌++◌, take, length, Option, Some, None, option_map, Result, Ok, Err, MatchOption}
+use Rattle.std.specs.Prelude.{◌≡◌, ℕ, min, false, is_none, ◌+◌, ◌-◌, ◌^◌, Bool, true, ◌||◌, ◌==◌, nat_lt, find, List, [], ◌∷◌, ◌++◌, take, length, Option, Some, None, option_map, Result, Ok, Err, MatchOption}
+use Rattle.std.specs.List.{list_any}
 use Rattle.std.specs.Str.{bytes_eq}
+use Rattle.xc_base.specs.declared.shelf.File.{File}
 use Rattle.xc_base.specs.declared.shelf.LoadFault.{LoadFault}
 use Rattle.xc_base.specs.declared.shelf.LoadFault.TheVariants.{Failed, Memory}
-
-pub record File : Type 0 where
-  pub name : List ℕ
-  pub bytes : List ℕ
 
 -- a shelf that tells its files: the first file of a name counts; the names whose loads failed, the oldest first; and
 -- whether it fails at no other loads than those of names that are not held
@@ -22,8 +20,7 @@ pub record Shelved : Type 0 where
 
 -- the bytes of the file of that name
 abbrev pub held : List File → List ℕ → Option (List ℕ)
-held [] name = None
-held (file ∷ files) name = if bytes_eq file.name name then Some file.bytes else held files name
+held files name = option_map (λ file. file.bytes) (find (λ file. bytes_eq file.name name) files)
 
 -- A count rose in a call, or stands at the last value of a `u64`.
 abbrev pub has_risen : ℕ → ℕ → Bool
@@ -56,3 +53,38 @@ IsAbsentIfSteady (Some told) name = told.steady ≡ true → held told.files nam
 -- where files are told, the faults are the loads that failed
 abbrev pub AreCounted : Shelved → Type 0
 AreCounted shelf = MatchOption shelf.told (Unit {0}) (λ told. shelf.faults ≡ length told.failed)
+
+-- what a shelf in memory holds: its files, the newest first; the numbers of the calls that are to fail; the names whose
+-- loads failed, the oldest first; and the number of the last call
+pub record Kept : Type 0 where
+  pub files : List File
+  pub failing : List ℕ
+  pub failed : List (List ℕ)
+  pub calls : ℕ
+
+-- it tells its files, and it is steady where no call is to fail
+abbrev pub is_empty : List ℕ → Bool
+is_empty [] = true
+is_empty (x ∷ xs) = false
+
+abbrev pub shelved : Kept → Shelved
+shelved kept = record { told = Some (record { files = kept.files; failed = kept.failed; steady = is_empty kept.failing }); faults = length kept.failed }
+
+-- the next call's number, from 1 on, and no greater than a `u64` can be
+abbrev pub next_call : ℕ → ℕ
+next_call calls = min (calls + 1) 18446744073709551615
+
+-- whether the next call is to fail
+abbrev pub fails_next : List ℕ → ℕ → Bool
+fails_next failing calls = list_any (λ call. call == next_call calls) failing
+
+-- whether the next load of that name fails: its number was given, or the name is not held
+abbrev pub fails_at : Kept → List ℕ → Bool
+fails_at kept name = fails_next kept.failing kept.calls || is_none (held kept.files name)
+
+abbrev pub empty_shelf : Kept
+empty_shelf = record { files = []; failing = []; failed = []; calls = 0 }
+
+-- a shelf in memory after a load of that name
+abbrev pub after_load : {X : Type 0} → Kept → List ℕ → Result X LoadFault → Kept
+after_load kept name result = record kept { failed = failed_after kept.failed name result; calls = next_call kept.calls }

@@ -1,8 +1,16 @@
 ghost use Rattle.std.specs.Prelude.{◌≡◌, ◌<◌, ◌≤◌, ◌^◌, IfOk, IsErrOf};
 ghost use Rattle.xc_base.specs.Shelves.{Shelved, told_after, IsLoaded, HasRisen, IsAbsentIfSteady, AreCounted};
 
+use crate::list::Bytes;
 use std::alloc::Global;
 use thiserror::Error;
+
+/// A file: its name and its bytes.
+#[derive(Debug, Drop)]
+pub struct File {
+    pub name: Bytes,
+    pub bytes: Bytes,
+}
 
 /// Why a shelf gives no bytes.
 #[derive(Clone, Copy, Debug, PartialEq, Eq, Error)]
