@@ -70,13 +70,13 @@ is_empty (x ∷ xs) = false
 abbrev pub shelved : Kept → Shelved
 shelved kept = record { told = Some (record { files = kept.files; failed = kept.failed; steady = is_empty kept.failing }); faults = length kept.failed }
 
--- the next call's number, from 1 on, and no greater than a `u64` can be
-abbrev pub next_call : ℕ → ℕ
-next_call calls = min (calls + 1) 18446744073709551615
+-- a count that rises by one, or stands at the last value of a `u64`; calls are numbered by it from 1 on
+abbrev pub raised : ℕ → ℕ
+raised count = min (count + 1) 18446744073709551615
 
 -- whether the next call is to fail
 abbrev pub fails_next : List ℕ → ℕ → Bool
-fails_next failing calls = list_any (λ call. call == next_call calls) failing
+fails_next failing calls = list_any (λ call. call == raised calls) failing
 
 -- whether the next load of that name fails: its number was given, or the name is not held
 abbrev pub fails_at : Kept → List ℕ → Bool
@@ -87,4 +87,8 @@ empty_shelf = record { files = []; failing = []; failed = []; calls = 0 }
 
 -- a shelf in memory after a load of that name
 abbrev pub after_load : {X : Type 0} → Kept → List ℕ → Result X LoadFault → Kept
-after_load kept name result = record kept { failed = failed_after kept.failed name result; calls = next_call kept.calls }
+after_load kept name result = record kept { failed = failed_after kept.failed name result; calls = raised kept.calls }
+
+-- a shelf that tells no files
+abbrev pub unseen : ℕ → Shelved
+unseen faults = record { told = None; faults = faults }

@@ -2,7 +2,7 @@ ghost use Rattle.std.specs.Prelude.{◌≡◌, ◌==◌, find, ◌<◌, ◌≤�
 ghost use Rattle.std.specs.List.{list_any};
 ghost use Rattle.std.specs.Option.{option_copied};
 ghost use Rattle.std.specs.Str.{bytes_eq};
-ghost use Rattle.xc_base.specs.Shelves.{told_after, IsLoaded, HasRisen, IsAbsentIfSteady, held, fails_next, fails_at, next_call};
+ghost use Rattle.xc_base.specs.Shelves.{told_after, IsLoaded, HasRisen, IsAbsentIfSteady, held, fails_at};
 
 use crate::list::{Bytes, List};
 use crate::memory::Memory;
