@@ -1,1 +1,5 @@
+pub mod CutLines
+pub mod CutTokens
+pub mod Rows
+pub mod Within
 pub mod Words

@@ -1,3 +1,5 @@
+pub mod Cutting
 pub mod Formats
+pub mod Lines
 pub mod Text
 pub mod Words

@@ -1,14 +1,16 @@
 //! Words, lines and files of statements; the shelf that files come from, and the sinks that text goes to.
 #![tactic(auto)]
 
+mod cut;
 mod fault;
 mod lines;
 mod list;
 mod memory;
 mod word;
 
+pub use cut::cut_lines;
 pub use fault::{Counted, FileFault, Part, Stop, TextFault};
-pub use lines::{Line, Token};
+pub use lines::{Lexeme, Line, Lines, Token};
 pub use list::{Bytes, List};
 pub use memory::Memory;
 pub use word::{Word, is_name_text, is_word_text};
