@@ -3,8 +3,13 @@ use Rattle.std.specs.Prelude.{ℕ, List, [], map}
 use Rattle.std.specs.List.{slice_index_or}
 use Rattle.xc_base.specs.Formats.{Row}
 use Rattle.xc_base.specs.Text.{rows_of, token_text}
+use Rattle.xc_base.specs.declared.lines.Lexeme.{Lexeme}
 use Rattle.xc_base.specs.declared.lines.Line.{Line}
 use Rattle.xc_base.specs.declared.lines.Lines.{Lines}
+
+-- the texts of lexemes
+abbrev pub texts : List Lexeme → List (List ℕ)
+texts lexemes = map (λ (x : Lexeme). x.text.now) lexemes
 
 -- a line of a text as a row
 abbrev pub row_of : List ℕ → Line → Row

@@ -3,9 +3,10 @@
 #[cfg(test)]
 mod tests;
 
-ghost use Rattle.std.specs.Prelude.{◌≡◌, ◌+◌, ◌^◌, ◌<◌, ◌≤◌, ◌++◌, [], ◌∷◌, None, false, length, drop, slice_index, not, IfOk, OnOk, IfErr, IfSome, MatchOption, ◌==◌};
+ghost use Rattle.std.specs.Prelude.{◌≡◌, ◌+◌, ◌^◌, ◌<◌, ◌≤◌, ◌++◌, [], ◌∷◌, None, length, drop, not, IfOk, OnOk, IfErr, IfSome, MatchOption, ◌==◌};
 ghost use Rattle.std.specs.List.{prefix_len, position_or_len, list_any};
 ghost use Rattle.xc_base.specs.Cutting.{token_size, IsFaultOf};
+ghost use Rattle.xc_base.specs.Lines.{rows_in, text_rows};
 ghost use Rattle.xc_base.specs.Text.{is_blank, is_allowed, joins, tokens_from, rows_from, rows_of, first_fault_from, text_fault, IsTextFault};
 
 use crate::fault::TextFault;
@@ -37,6 +38,7 @@ pub fn cut_lines<'a>(
     requires { limit < 2 ^ 32 }
     ensures source { IfOk result (λ l. l.source.now ≡ bytes.now) }
     ensures rows { IfOk result (λ l. l.rows ≡ rows_of bytes.now) }
+    ensures seen { IfOk result (λ l. rows_in l ≡ text_rows bytes.now) }
     ensures sound { OnOk result (text_fault limit bytes.now ≡ None) }
     ensures fault { IfErr result (IsTextFault limit bytes.now) }
 {

@@ -39,12 +39,13 @@ pub struct Lexeme<'a> {
 }
 
 impl<'a> Lines<'a> {
-    ghost use Rattle.std.specs.Prelude.{IfOk, map};
-    ghost use Rattle.xc_base.specs.Lines.{rows_in, row_at};
+    ghost use Rattle.std.specs.Prelude.{◌+◌, ◌∷◌, IfOk, drop};
+    ghost use Rattle.xc_base.specs.Lines.{rows_in, row_at, texts};
 
     /// How many rows there are.
     pub fn len(&self) -> usize
-        ensures { result ≡ length (rows_in self.now) }
+        ensures rows { result ≡ length self.now.rows }
+        ensures seen { result ≡ length (rows_in self.now) }
     {
         self.rows.len()
     }
@@ -58,10 +59,15 @@ impl<'a> Lines<'a> {
     }
 
     /// The tokens of a row, in their order.
-    #[tactic(auto, using(crate::proofs::Rows::texts_at))]
+    #[tactic(auto, using(crate::proofs::Rows::texts_at, crate::proofs::Rows::row_first))]
     pub fn lexemes(&self, alloc: Global, row: usize) -> Result<List<Lexeme<'a>>, Memory>
         requires { row < length self.now.rows }
-        ensures { IfOk result (λ xs. map (λ x. x.text.now) xs ≡ (row_at (rows_in self.now) row).tokens) }
+        ensures tokens { IfOk result (λ xs. texts xs ≡ (row_at (rows_in self.now) row).tokens) }
+        // with the row's number this is the first of the rows that a loop has left
+        ensures first { IfOk result
+            (λ xs. drop row (rows_in self.now)
+                ≡ record { number = (row_at (rows_in self.now) row).number; tokens = texts xs }
+                ∷ drop (row + 1) (rows_in self.now)) }
     {
         let mut lexemes = List::new(alloc);
         for token in self.rows.get(row).tokens.as_slice() {
