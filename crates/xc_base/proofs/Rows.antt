@@ -1,10 +1,9 @@
 -- The rows of a cut text, as its readers see them.
-use Rattle.std.proofs.Common.{◌≡◌, ℕ, ◌+◌, ◌-◌, ◌<◌, ◌≤◌, Bool, true, false, leb, ltb, ◌&&◌, List, [], ◌∷◌, ◌++◌, length, take, drop, map, get_or, refl, ap, sym, ◌∙◌, arith, rules}
-use Rattle.std.specs.List.{list_all}
+use Rattle.std.proofs.Common.{◌≡◌, ℕ, ◌+◌, ◌<◌, ◌≤◌, List, ◌∷◌, ◌++◌, length, take, drop, map, get_or, ap, sym, ◌∙◌}
 use Rattle.std.proofs.lemmas.List.{take_all, take-append-drop, drop_more, get_or-map, get_or_read}
-use Rattle.xc_base.specs.Text.{token_text, rows_of}
+use Rattle.xc_base.specs.Text.{token_text}
 use Rattle.xc_base.specs.Formats.{Row}
-use Rattle.xc_base.specs.Lines.{row_of, row_at, text_rows}
+use Rattle.xc_base.specs.Lines.{row_of, row_at}
 use Rattle.xc_base.specs.declared.lines.Token.{Token}
 use Rattle.xc_base.specs.declared.lines.Line.{Line}
 

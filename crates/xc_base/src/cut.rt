@@ -22,19 +22,8 @@ const LONGEST_LINE: usize = 4096;
 /// Cuts a text that may have so many bytes into lines.
 ///
 /// The fault is that of the first line that has one; a text over the limit is not looked at.
-#[tactic(auto, using(
-    crate::proofs::CutLines::rows_at,
-    crate::proofs::CutLines::rows_at_end,
-    crate::proofs::CutLines::faultless_at,
-    crate::proofs::CutLines::no_fault_at_end,
-    crate::proofs::CutLines::fault_of_text,
-    crate::proofs::Within::rows_within
-))]
-pub fn cut_lines<'a>(
-    alloc: Global,
-    bytes: &'a [u8],
-    limit: usize,
-) -> Result<Lines<'a>, TextFault>
+#[tactic(auto, using(crate::proofs::CutLines::rows_at, crate::proofs::CutLines::rows_at_end, crate::proofs::CutLines::faultless_at, crate::proofs::CutLines::no_fault_at_end, crate::proofs::CutLines::fault_of_text, crate::proofs::Within::rows_within))]
+pub fn cut_lines<'a>(alloc: Global, bytes: &'a [u8], limit: usize) -> Result<Lines<'a>, TextFault>
     requires { limit < 2 ^ 32 }
     ensures source { IfOk result (λ l. l.source.now ≡ bytes.now) }
     ensures rows { IfOk result (λ l. l.rows ≡ rows_of bytes.now) }
@@ -129,13 +118,7 @@ fn tokens_of(alloc: Global, text: &[u8], place: usize) -> Result<List<Token>, Me
 }
 
 /// The first token of a line from a place on.
-#[tactic(auto, using(
-    crate::proofs::CutTokens::tokens_behind_blanks,
-    crate::proofs::CutTokens::no_blank_behind,
-    crate::proofs::CutTokens::no_tokens_at_end,
-    crate::proofs::CutTokens::no_tokens_at_comment,
-    crate::proofs::CutTokens::token_at
-))]
+#[tactic(auto, using(crate::proofs::CutTokens::tokens_behind_blanks, crate::proofs::CutTokens::no_blank_behind, crate::proofs::CutTokens::no_tokens_at_end, crate::proofs::CutTokens::no_tokens_at_comment, crate::proofs::CutTokens::token_at))]
 fn next_token(text: &[u8], from: usize) -> Option<Token>
     requires { from ≤ length text.now }
     ensures within { IfSome result (λ t. (from < t.end) × (t.end ≤ length text.now)) }
@@ -165,11 +148,7 @@ fn blanks(text: &[u8]) -> usize
 }
 
 /// Where the token that begins at a place ends.
-#[tactic(auto, using(
-    crate::proofs::CutTokens::token_size_on,
-    crate::proofs::CutTokens::token_size_last,
-    crate::proofs::CutTokens::token_size_here
-))]
+#[tactic(auto, using(crate::proofs::CutTokens::token_size_on, crate::proofs::CutTokens::token_size_last, crate::proofs::CutTokens::token_size_here))]
 fn token_end(text: &[u8], start: usize) -> usize
     requires { start < length text.now }
     ensures within { (start < result) × (result ≤ length text.now) }

@@ -66,8 +66,8 @@ impl<'a> Lines<'a> {
         // with the row's number this is the first of the rows that a loop has left
         ensures first { IfOk result
             (λ xs. drop row (rows_in self.now)
-                ≡ record { number = (row_at (rows_in self.now) row).number; tokens = texts xs }
-                ∷ drop (row + 1) (rows_in self.now)) }
+            ≡ record { number = (row_at (rows_in self.now) row).number; tokens = texts xs }
+            ∷ drop (row + 1) (rows_in self.now)) }
     {
         let mut lexemes = List::new(alloc);
         for token in self.rows.get(row).tokens.as_slice() {
