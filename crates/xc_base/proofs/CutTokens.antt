@@ -158,3 +158,8 @@ token_size_here text k n e h j =
     let d : drop k text ≡ get_or text k 0 ∷ drop n text = drop_more text k 0 (omega arith) ∙ ap (λ i. get_or text k 0 ∷ drop i text) (sym e) in
     let f : joins_next (get_or text k 0) (drop n text) ≡ false = ap (joins_next (get_or text k 0)) (drop_more text n 0 h) ∙ j in
     ap token_size d ∙ token_size_ends _ _ f
+
+-- what the next token, and the end of a token, are found by
+pub ruleset token_steps = (tokens_behind_blanks, no_blank_behind, no_tokens_at_end, no_tokens_at_comment, token_at)
+
+pub ruleset size_steps = (token_size_on, token_size_last, token_size_here)
