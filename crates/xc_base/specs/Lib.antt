@@ -1,4 +1,6 @@
+pub mod Cutting
 pub mod Formats
+pub mod Lines
 pub mod Shelves
 pub mod Sinks
 pub mod Text

@@ -1,6 +1,7 @@
 //! Words, lines and files of statements; the shelf that files come from, and the sinks that text goes to.
 #![tactic(auto)]
 
+mod cut;
 mod fault;
 mod file_shelf;
 mod lines;
@@ -13,9 +14,10 @@ mod sink;
 mod stream_sink;
 mod word;
 
+pub use cut::cut_lines;
 pub use fault::{Counted, FileFault, Part, Stop, TextFault};
-pub use lines::{Line, Token};
 pub use file_shelf::FileShelf;
+pub use lines::{Lexeme, Line, Lines, Token};
 pub use list::{Bytes, List};
 pub use memory::Memory;
 pub use memory_shelf::MemoryShelf;
