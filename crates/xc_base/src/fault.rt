@@ -19,15 +19,27 @@ pub enum TextFault {
 #[derive(Debug, Drop)]
 pub enum FileFault {
     /// The line is no statement that is due there.
-    NoStatement { line: u32 },
+    NoStatement {
+        line: u32,
+    },
     /// The line says again what may be said once.
-    Repeated { line: u32 },
+    Repeated {
+        line: u32,
+    },
     /// The line names what there is not.
-    Unknown { line: u32 },
+    Unknown {
+        line: u32,
+    },
     /// The line passes a limit, with the number that does.
-    Count { line: u32, what: Counted, found: u64 },
+    Count {
+        line: u32,
+        what: Counted,
+        found: u64,
+    },
     /// No line is at fault, and the file lacks a part.
-    Missing { part: Part },
+    Missing {
+        part: Part,
+    },
 }
 
 /// What a limit counts.

@@ -25,17 +25,26 @@ fn read_bytes<F: Read>(alloc: Global, file: &mut F, limit: usize) -> Result<Vec<
     let mut chunk = [0u8; 4096];
     while bytes.len() <= limit {
         let room = (limit + 1 - bytes.len()).min(chunk.len());
-        let count = file.read(&mut chunk[..room]).map_err(|_| LoadFault::Failed)?;
+        let count = file
+            .read(&mut chunk[..room])
+            .map_err(|_| LoadFault::Failed)?;
         if count == 0 {
             break;
         }
-        bytes.extend_from_slice(&chunk[..count]).map_err(|_| LoadFault::Memory)?;
+        bytes
+            .extend_from_slice(&chunk[..count])
+            .map_err(|_| LoadFault::Memory)?;
     }
     Ok(bytes)
 }
 
 /// The bytes of a file of the system, up to its end or the first `limit + 1` of them.
-fn read_file<R: Files>(alloc: Global, rt: &R, name: &str, limit: usize) -> Result<Vec<u8>, LoadFault>
+fn read_file<R: Files>(
+    alloc: Global,
+    rt: &R,
+    name: &str,
+    limit: usize,
+) -> Result<Vec<u8>, LoadFault>
     requires { limit < 2 ^ 32 }
     ensures { IfOk result (λ v. vec_len v ≤ limit + 1) }
 {

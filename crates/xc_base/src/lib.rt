@@ -26,3 +26,6 @@ pub use shelf::{File, LoadFault, Shelf};
 pub use sink::{Sink, SinkFault, put_all};
 pub use stream_sink::StreamSink;
 pub use word::{Word, is_name_text, is_word_text};
+
+#[cfg(test)]
+mod tests;

@@ -34,7 +34,9 @@ impl Model for MemoryShelf {
 fn find_file<'a>(files: &'a [File], name: &str) -> Option<&'a File>
     ensures { option_copied result ≡ find (λ file. bytes_eq file.name name.now) files.now }
 {
-    files.iter().find(|file| file.name.as_slice() == name.as_bytes())
+    files
+        .iter()
+        .find(|file| file.name.as_slice() == name.as_bytes())
 }
 
 /// Whether the next call is one of those that are to fail.
