@@ -1,3 +1,4 @@
+pub mod Deciding
 pub mod Formats
 pub mod Text
 pub mod Words
