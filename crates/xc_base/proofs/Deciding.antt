@@ -1,5 +1,5 @@
 -- What the deciding function gives is what the relations on files say.
-use Rattle.std.proofs.Common.{◌≡◌, ◌≢◌, ℕ, Bool, true, false, cond, List, [], ◌∷◌, ◌++◌, Option, Some, None, Result, Ok, Err, refl, sym, ◌∙◌, ap, subst, append_assoc, arith, rules}
+use Rattle.std.proofs.Common.{◌≡◌, ◌≢◌, ℕ, Bool, true, false, cond, List, [], ◌∷◌, ◌++◌, Option, Some, None, Result, Ok, Err, refl, sym, ◌∙◌, ap, subst, append_assoc, ◌⊎◌, inl, inr}
 use Rattle.xc_base.specs.declared.fault.Part.{Part}
 use Rattle.xc_base.specs.declared.fault.FileFault.{FileFault}
 use Rattle.xc_base.specs.declared.fault.FileFault.TheVariants.{NoStatement, Repeated, Unknown, Count, Missing}
@@ -7,6 +7,7 @@ use Rattle.xc_base.specs.Formats.{Format, Row, Excess, IsFaultless, HasFault, Ar
 use Rattle.xc_base.specs.Formats.HasFault.{no_statement, repeated, unknown, count}
 use Rattle.xc_base.specs.Formats.AreStatements.{none, next}
 use Rattle.xc_base.specs.Formats.IsFirstFault.{in_row, lacking}
+use Rattle.xc_base.specs.Judging.{AreWhole, GivesStatements, GivesFaults, StatementsAreUnique, FirstFaultsAreUnique, AcceptedHasNoFault, EachIsJudged}
 use Rattle.xc_base.specs.Deciding.{Decides, excess_fault, statement_fault, unless, judged, line_of, on_ok, statements_of, whole, file_of}
 
 -- what is no option's value and what is one differ
@@ -253,3 +254,62 @@ module _ {S V : Type 0} (format : Format S V) (decide : List S → List (List �
 
   statements_of_read : (rows : List Row) (all : List S) → Read format [] rows all → AreStatements format [] rows all
   statements_of_read rows all h = subst (AreStatements format [] rows) (sym h.together) h.statements
+
+  -- the function's answer on a whole file
+  whole_ok : (all ss : List S) (o : Option Part) → whole o all ≡ Ok ss → (all ≡ ss) × (o ≡ None)
+  whole_ok all ss None h = (ok_same h, refl)
+  whole_ok all ss (Some part) h = absurd (ok_is_not ss (Missing part) (sym h))
+
+  whole_err : (all : List S) (f : FileFault) (o : Option Part) → whole o all ≡ Err f → (part : Part) × (o ≡ Some part) × (Missing part ≡ f)
+  whole_err all f None h = absurd (ok_is_not all f h)
+  whole_err all f (Some part) h = (part, refl, err_same h)
+
+  sound_after : (rows : List Row) (ss : List S) (o : Result (List S) FileFault) → statements_of format decide [] rows ≡ o → on_ok o (λ all. whole (format.missing all) all) ≡ Ok ss → AreWhole format rows ss
+  sound_after rows ss (Err f) e h = absurd (ok_is_not ss f (sym h))
+  sound_after rows ss (Ok all) e h =
+    let parts = whole_ok all ss (format.missing all) h in
+    record {
+      read = subst (AreStatements format [] rows) parts.0 (statements_of_read rows all (statements_sound [] rows all e));
+      whole = subst (λ (xs : List S). format.missing xs ≡ None) parts.0 parts.1 }
+
+  lacking_of : (rows : List Row) (all : List S) (f : FileFault) → AreStatements format [] rows all → (part : Part) × (format.missing all ≡ Some part) × (Missing part ≡ f) → IsFirstFault format rows f
+  lacking_of rows all f h p = subst (IsFirstFault format rows) p.2 (lacking all p.0 h p.1)
+
+  fault_after : (rows : List Row) (f : FileFault) (o : Result (List S) FileFault) → statements_of format decide [] rows ≡ o → on_ok o (λ all. whole (format.missing all) all) ≡ Err f → IsFirstFault format rows f
+  fault_after rows f (Err g) e h = first_fault_of_stopped rows f (statements_fault_sound [] rows f (e ∙ ap Err (err_same h)))
+  fault_after rows f (Ok all) e h =
+    lacking_of rows all f (statements_of_read rows all (statements_sound [] rows all e)) (whole_err all f (format.missing all) h)
+
+  file_sound : (rows : List Row) (ss : List S) → file_of format decide rows ≡ Ok ss → AreWhole format rows ss
+  unfolding file_of
+  file_sound rows ss h = sound_after rows ss (statements_of format decide [] rows) refl h
+
+  file_fault_sound : (rows : List Row) (f : FileFault) → file_of format decide rows ≡ Err f → IsFirstFault format rows f
+  unfolding file_of
+  file_fault_sound rows f h = fault_after rows f (statements_of format decide [] rows) refl h
+
+  pub gives_statements : GivesStatements format decide
+  gives_statements rows ss = (file_sound rows ss, λ h. file_of-ok rows ss h.read h.whole)
+
+  pub gives_faults : GivesFaults format decide
+  gives_faults rows f = (file_fault_sound rows f, first_fault_given rows)
+
+  all_of : (rows : List Row) (ss : List S) → AreStatements format [] rows ss → statements_of format decide [] rows ≡ Ok ss
+  all_of rows ss h = ap (statements_of format decide []) (append_nil_sym rows) ∙ statements_complete [] h ∙ statements_of-end format decide ss
+
+  pub statements_are_unique : StatementsAreUnique format
+  statements_are_unique rows ss ts hs ht = ok_same (sym (all_of rows ss hs) ∙ all_of rows ts ht)
+
+  pub first_faults_are_unique : FirstFaultsAreUnique format
+  first_faults_are_unique rows f g hf hg = err_same (sym (first_fault_given rows hf) ∙ first_fault_given rows hg)
+
+  pub accepted_has_no_fault : AcceptedHasNoFault format
+  accepted_has_no_fault rows v f h k =
+    ok_is_not h.statements f (sym (file_of-ok rows h.statements h.read h.whole) ∙ first_fault_given rows k)
+
+  judged_by : (rows : List Row) (o : Result (List S) FileFault) → file_of format decide rows ≡ o → ((ss : List S) × AreWhole format rows ss) ⊎ ((f : FileFault) × IsFirstFault format rows f)
+  judged_by rows (Ok ss) e = inl (ss, file_sound rows ss e)
+  judged_by rows (Err f) e = inr (f, file_fault_sound rows f e)
+
+  pub each_is_judged : EachIsJudged format
+  each_is_judged rows = judged_by rows (file_of format decide rows) refl

@@ -1,4 +1,5 @@
 pub mod Deciding
 pub mod Formats
+pub mod Judging
 pub mod Text
 pub mod Words

@@ -2,12 +2,14 @@
 #![tactic(auto)]
 
 mod fault;
+mod formats;
 mod lines;
 mod list;
 mod memory;
 mod word;
 
 pub use fault::{Counted, FileFault, Part, Stop, TextFault};
+pub use formats::{FileKind, files_are_judged_once};
 pub use lines::{Line, Token};
 pub use list::{Bytes, List};
 pub use memory::Memory;
