@@ -3,4 +3,4 @@
 
 mod order;
 
-pub use order::Pair;
+pub use order::{Order, Pair};
