@@ -3,6 +3,8 @@ use Rattle.std.specs.Prelude.{◌≡◌, ℕ, Bool, true, false, cond, List, [],
 use Rattle.xc_base.specs.declared.fault.Part.{Part}
 use Rattle.xc_base.specs.declared.fault.FileFault.{FileFault}
 use Rattle.xc_base.specs.declared.fault.FileFault.TheVariants.{NoStatement, Repeated, Unknown, Count, Missing}
+use Rattle.xc_base.specs.declared.fault.Stop.{Stop}
+use Rattle.xc_base.specs.declared.fault.Stop.TheVariants.{File, Memory}
 use Rattle.xc_base.specs.Formats.{Format, Row, Excess}
 
 -- the function gives the statement that is due, where one is
@@ -49,3 +51,9 @@ whole (Some part) statements = Err (Missing part)
 -- the statements of a whole file, or its first fault
 unfoldable pub file_of : {S V : Type 0} → Format S V → (List S → List (List ℕ) → Option S) → List Row → Result (List S) FileFault
 file_of format decide rows = on_ok (statements_of format decide [] rows) (λ statements. whole (format.missing statements) statements)
+
+-- what a reader gives is that, where memory is there
+abbrev pub Gives : {T : Type 0} → Result T Stop → Result T FileFault → Type 0
+Gives (Ok t) outcome = outcome ≡ Ok t
+Gives (Err (File fault)) outcome = outcome ≡ Err fault
+Gives (Err Memory) outcome = Unit {0}

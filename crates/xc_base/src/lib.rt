@@ -10,7 +10,7 @@ mod word;
 
 pub use fault::{Counted, FileFault, Part, Stop, TextFault};
 pub use formats::{FileKind, files_are_judged_once};
-pub use lines::{Line, Token};
+pub use lines::{Lexeme, Line, Token};
 pub use list::{Bytes, List};
 pub use memory::Memory;
 pub use word::{Word, is_name_text, is_word_text};

@@ -18,3 +18,10 @@ pub struct Line {
     pub number: u32,
     pub tokens: List<Token>,
 }
+
+/// One token: its bytes, and whether it is a word.
+#[derive(Clone, Copy, Debug)]
+pub struct Lexeme<'a> {
+    pub text: &'a [u8],
+    pub word: bool,
+}

@@ -2,7 +2,9 @@
 #![tactic(auto)]
 
 
+mod judge;
 mod law;
+mod read;
 mod statement;
 
 pub use law::Law;
