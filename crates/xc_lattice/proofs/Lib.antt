@@ -1,2 +1,4 @@
+pub mod Deciding
+pub mod Drafts
 pub mod Names
 pub mod Tokens

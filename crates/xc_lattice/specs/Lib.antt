@@ -1,3 +1,4 @@
 pub mod Breaks
 pub mod Deciding
+pub mod Drafts
 pub mod LatticeFiles
