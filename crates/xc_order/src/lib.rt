@@ -1,6 +1,7 @@
 //! The order that pairs of elements span, with its bounds and its height.
 #![tactic(auto)]
 
+mod closure;
 mod order;
 
 pub use order::{Order, Pair};

@@ -5,6 +5,7 @@ ghost use Rattle.xc_theory.specs.Bounds.{is_lower_bound, is_upper_bound, is_meet
 ghost use Rattle.xc_order.specs.Pairs.{IsListed, AreBelow};
 ghost use Rattle.xc_order.specs.Order.{IsOrder};
 
+use crate::closure::{own_rows, span};
 use std::alloc::Global;
 use std::marker::Model;
 use xc_base::{List, Memory};
@@ -40,13 +41,15 @@ impl Order {
     /// The order of n elements that the pairs span: an element is below another one where pairs lead from it to that one.
     ///
     /// It fails where there is no memory.
-    pub fn of(_alloc: Global, n: u8, pairs: &List<Pair>) -> Result<Order, Memory>
+    pub fn of(alloc: Global, n: u8, pairs: &List<Pair>) -> Result<Order, Memory>
         requires positive { 0 < n }
         requires limit { n ≤ 64 }
         requires pairs { AreBelow n pairs.now }
         ensures { IfOk result (λ order. IsSpannedBy n (IsListed pairs.now) order) }
     {
-        Err(Memory)
+        let mut rows = own_rows(alloc, n)?;
+        span(&mut rows, n, pairs.as_slice());
+        Ok(Order { n, rows })
     }
 
     /// How many elements there are.
