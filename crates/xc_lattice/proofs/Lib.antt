@@ -1,4 +1,7 @@
 pub mod Deciding
 pub mod Drafts
 pub mod Names
+pub mod Places
 pub mod Tokens
+pub mod Values
+pub mod Verdicts

@@ -2,3 +2,4 @@ pub mod Breaks
 pub mod Deciding
 pub mod Drafts
 pub mod LatticeFiles
+pub mod Laws

@@ -6,6 +6,8 @@ mod judge;
 mod law;
 mod read;
 mod statement;
+mod verdict;
 
 pub use law::Law;
 pub use statement::Statement;
+pub use verdict::{LatticeFiles, verdicts_are_unique};
