@@ -1,5 +1,5 @@
 -- The table of the first n columns of some rows.
-use Rattle.std.proofs.Common.{◌≡◌, ℕ, ◌<◌, Bool, false, List, [], length, map, take, get_or, ap, ◌∙◌}
+use Rattle.std.proofs.Common.{◌≡◌, ℕ, ◌<◌, Bool, false, List, [], length, take, get_or, ap, ◌∙◌}
 use Rattle.std.proofs.lemmas.List.{get_or-map, get_or-take}
 use Rattle.xc_theory.specs.Orders.{is_below}
 use Rattle.xc_order.specs.Order.{table_of}

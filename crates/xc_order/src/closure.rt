@@ -44,7 +44,6 @@ pub(crate) fn span(rows: &mut [[bool; 64]], n: u8, pairs: &[Pair])
     close(rows, n);
 }
 
-
 fn add_pairs(rows: &mut [[bool; 64]], n: u8, pairs: &[Pair])
     requires limit { n ≤ 64 }
     requires pairs { AreBelow n pairs.now }
@@ -55,7 +54,6 @@ fn add_pairs(rows: &mut [[bool; 64]], n: u8, pairs: &[Pair])
         rows[p.low as usize][p.high as usize] = true;
     }
 }
-
 
 #[tactic(auto, using(crate::proofs::Rows::closes_none))]
 fn close(rows: &mut [[bool; 64]], n: u8)

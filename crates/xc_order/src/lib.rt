@@ -2,6 +2,7 @@
 #![tactic(auto)]
 
 mod closure;
+mod height;
 mod order;
 
 pub use order::{Order, Pair};
