@@ -1,2 +1,6 @@
+pub mod CutLines
+pub mod CutTokens
 pub mod Deciding
+pub mod Rows
+pub mod Within
 pub mod Words

@@ -1,6 +1,6 @@
 -- A text is cut into lines, and a line into tokens: words and symbols.
-use Rattle.std.specs.Prelude.{◌≡◌, ℕ, ◌+◌, Bool, true, false, ◌&&◌, ◌||◌, ◌==◌, if◌then◌else◌, nat_lt, not, List, [], ◌∷◌, length, Option, Some, None}
-use Rattle.std.specs.List.{list_any, slice_range}
+use Rattle.std.specs.Prelude.{◌≡◌, ℕ, ◌+◌, Bool, true, false, ◌&&◌, ◌||◌, ◌==◌, if◌then◌else◌, nat_lt, nat_le, not, List, [], ◌∷◌, length, Option, Some, None}
+use Rattle.std.specs.List.{list_all, list_any, slice_range}
 use Rattle.xc_base.specs.Words.{is_within, is_word_byte}
 use Rattle.xc_base.specs.declared.fault.TextFault.{TextFault}
 use Rattle.xc_base.specs.declared.fault.TextFault.TheVariants.{LongFile, BadByte, LongLine, Memory}
@@ -12,7 +12,7 @@ abbrev pub onto_first : ℕ → List (List ℕ) → List (List ℕ)
 onto_first b [] = (b ∷ []) ∷ []
 onto_first b (line ∷ lines) = (b ∷ line) ∷ lines
 
-abbrev pub lines_of : List ℕ → List (List ℕ)
+unfoldable pub lines_of : List ℕ → List (List ℕ)
 lines_of [] = []
 lines_of (b ∷ bytes) = if b == 10 then [] ∷ lines_of bytes else onto_first b (lines_of bytes)
 
@@ -35,7 +35,7 @@ with_byte place b true (t ∷ tokens) = record t { start = place } ∷ tokens
 with_byte place b true [] = []
 
 -- the tokens of a line whose first byte stands at a place: blanks part them, and from the first `#` on there are none
-abbrev pub tokens_from : ℕ → List ℕ → List Token
+unfoldable pub tokens_from : ℕ → List ℕ → List Token
 tokens_from place [] = []
 tokens_from place (b ∷ bytes) =
     if b == 35 then [] else
@@ -47,7 +47,7 @@ with_line number [] rows = rows
 with_line number (t ∷ tokens) rows = record { number = number; tokens = t ∷ tokens } ∷ rows
 
 -- the lines that have a token, with their numbers: of these lines the first has that number and begins at that place
-abbrev pub rows_from : ℕ → ℕ → List (List ℕ) → List Line
+unfoldable pub rows_from : ℕ → ℕ → List (List ℕ) → List Line
 rows_from number place [] = []
 rows_from number place (line ∷ lines) = with_line number (tokens_from place line) (rows_from (number + 1) (place + length line + 1) lines)
 
@@ -59,7 +59,7 @@ abbrev pub is_allowed : ℕ → Bool
 is_allowed b = b == 9 || b == 10 || b == 13 || is_within 32 126 b
 
 -- the fault of the first line that has one, the lines being numbered on; a byte goes before the length
-abbrev pub first_fault_from : ℕ → List (List ℕ) → Option TextFault
+unfoldable pub first_fault_from : ℕ → List (List ℕ) → Option TextFault
 first_fault_from number [] = None
 first_fault_from number (line ∷ lines) =
     if list_any (λ b. not (is_allowed b)) line then Some (BadByte number) else
@@ -73,6 +73,14 @@ text_fault limit bytes = if nat_lt limit (length bytes) then Some LongFile else 
 -- the bytes of a token of a text
 abbrev pub token_text : List ℕ → Token → List ℕ
 token_text source t = slice_range source t.start t.end
+
+-- whether a token is a part of a text of that length
+abbrev pub is_part : ℕ → Token → Bool
+is_part size t = nat_lt t.start t.end && nat_le t.end size
+
+-- whether each token of these lines is a part of a text of that length
+abbrev pub are_within : ℕ → List Line → Bool
+are_within size rows = list_all (λ line. list_all (is_part size) line.tokens) rows
 
 -- whether a fault of that kind is the text's, where memory is there
 abbrev pub IsTextFault : ℕ → List ℕ → TextFault → Type 0

@@ -24,12 +24,17 @@ impl Model for Word {
     ghost invariant = { λ w. is_word (string_bytes w.text) ≡ true };
 }
 
+/// Whether a byte is a letter, a digit, `_`, `.` or `/`.
+pub(crate) fn is_word_byte(b: u8) -> bool
+    ensures { result ≡ is_word_byte b }
+{
+    b.is_ascii_alphanumeric() || b == b'_' || b == b'.' || b == b'/'
+}
+
 fn has_word_bytes(bytes: &[u8]) -> bool
     ensures { result ≡ list_all is_word_byte bytes.now }
 {
-    bytes
-        .iter()
-        .all(|b| b.is_ascii_alphanumeric() || *b == b'_' || *b == b'.' || *b == b'/')
+    bytes.iter().all(|b| is_word_byte(*b))
 }
 
 fn has_path_byte(bytes: &[u8]) -> bool
