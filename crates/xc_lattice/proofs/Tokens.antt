@@ -7,7 +7,7 @@ use Rattle.std.proofs.lemmas.List.Folds.{list_all-map}
 use Rattle.std.proofs.lemmas.Bool.{and_parts}
 use Rattle.xc_base.specs.Words.{is_name, is_word}
 use Rattle.xc_base.specs.declared.lines.Lexeme.{Lexeme}
-use Rattle.xc_lattice.specs.Deciding.{texts}
+use Rattle.xc_base.specs.Lines.{texts}
 
 -- a name is a word
 pub name_is_word : (text : List ℕ) → is_name text ≡ true → is_word text ≡ true

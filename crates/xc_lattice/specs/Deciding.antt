@@ -1,15 +1,10 @@
 -- Which statement of a lattice file a row is.
-use Rattle.std.specs.Prelude.{ℕ, Bool, ◌&&◌, nat_lt, if◌then◌else◌, List, [], ◌∷◌, length, map, Option, Some, None, codes}
+use Rattle.std.specs.Prelude.{ℕ, Bool, ◌&&◌, nat_lt, if◌then◌else◌, List, [], ◌∷◌, length, Option, Some, None, codes}
 use Rattle.std.specs.List.{list_all}
 use Rattle.std.specs.Str.{bytes_eq}
 use Rattle.xc_base.specs.Words.{is_name}
-use Rattle.xc_base.specs.declared.lines.Lexeme.{Lexeme}
 use Rattle.xc_lattice.specs.declared.statement.Statement.{Statement}
 use Rattle.xc_lattice.specs.declared.statement.Statement.TheVariants.{Lattice, Elements, Below, Not}
-
--- the texts of tokens
-abbrev pub texts : List Lexeme → List (List ℕ)
-texts tokens = map (λ x. x.text.now) tokens
 
 -- the statement, where the test says so
 abbrev pub given : Bool → Statement → Option Statement

@@ -2,8 +2,9 @@ ghost use Rattle.std.specs.Prelude.{◌≡◌, ◌&&◌, true, length, nat_lt, I
 ghost use Rattle.std.specs.List.{list_all};
 ghost use Rattle.xc_base.specs.Words.{is_name};
 ghost use Rattle.xc_base.specs.Deciding.{Gives, line_of};
+ghost use Rattle.xc_base.specs.Lines.{texts};
 ghost use Rattle.xc_lattice.specs.LatticeFiles.{lattice_format};
-ghost use Rattle.xc_lattice.specs.Deciding.{texts, head_line, elements_line, pair_line, law_line, decide};
+ghost use Rattle.xc_lattice.specs.Deciding.{head_line, elements_line, pair_line, law_line, decide};
 
 use crate::judge::judge;
 use crate::statement::Statement;

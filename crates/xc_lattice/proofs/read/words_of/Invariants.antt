@@ -1,5 +1,5 @@
 use Rattle.std.proofs.Common.{◌≡◌, take}
-use Rattle.xc_lattice.specs.Deciding.{texts}
+use Rattle.xc_base.specs.Lines.{texts}
 use Rattle.xc_lattice.proofs.read.words_of.Given as goal
 
 abbrev pub invariant-loop-x : goal.invariant-loop-x
