@@ -4,7 +4,8 @@ use Rattle.xc_base.specs.Formats.{Row, AreStatements, IsAccepted}
 use Rattle.xc_base.proofs.Deciding.{statements_are_unique, first_faults_are_unique, accepted_has_no_fault}
 use Rattle.xc_lattice.specs.declared.law.Law.{Law}
 use Rattle.xc_lattice.specs.declared.statement.Statement.{Statement}
-use Rattle.xc_lattice.specs.Breaks.{Break, first_break}
+use Rattle.xc_lattice.specs.Breaks.{first_break}
+use Rattle.xc_lattice.specs.declared.breaks.Break.{Break}
 use Rattle.xc_lattice.specs.LatticeFiles.{LatticeValue, Says, lattice_format, name_at, IsBrokenBy, IsLattice, Verdict, IsVerdict}
 use Rattle.xc_lattice.specs.LatticeFiles.Verdict.{Faulty, Unlawful, Lawful}
 use Rattle.xc_lattice.specs.Laws.{VerdictsAreUnique}

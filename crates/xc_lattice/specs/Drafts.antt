@@ -1,5 +1,5 @@
 -- What holds of the statements of a whole file, none of which has a fault, and what a reader makes of them.
-use Rattle.std.specs.Prelude.{◌≡◌, ◌≤◌, ℕ, Bool, true, false, ◌++◌, List, [], ◌∷◌, length, map, Option, Some, None, unwrap_or, if◌then◌else◌}
+use Rattle.std.specs.Prelude.{◌≡◌, ◌≤◌, ℕ, Bool, true, false, ◌++◌, List, [], ◌∷◌, length, map, Option, Some, None, if◌then◌else◌}
 use Rattle.std.specs.List.{list_any, list_all, position_or_len}
 use Rattle.std.specs.Str.{bytes_eq}
 use Rattle.xc_base.specs.Words.{is_name}
@@ -59,9 +59,14 @@ negated_by (Lattice other ∷ more) name = negated_by more name
 negated_by (Elements names ∷ more) name = negated_by more name
 negated_by (Below low high ∷ more) name = negated_by more name
 
+-- the place of a name, and the end of the names where there is no name
+abbrev pub place_or_end : List (List ℕ) → Option (List ℕ) → ℕ
+place_or_end names None = length names
+place_or_end names (Some name) = place_of names name
+
 -- the place of an element's negation
 abbrev pub negation_place : List (List ℕ) → List Statement → List ℕ → ℕ
-negation_place names statements name = place_of names (unwrap_or (negated_by statements name) [])
+negation_place names statements name = place_or_end names (negated_by statements name)
 
 -- the negations of the elements
 abbrev pub negations_of : List (List ℕ) → List Statement → List ℕ

@@ -1,7 +1,9 @@
 //! Lattice files, and the laws that make a lattice of them.
 #![tactic(auto)]
 
-
+mod breaks;
+mod decide;
+mod gather;
 mod judge;
 mod law;
 mod read;
