@@ -1,12 +1,13 @@
 -- What holds of the statements of a whole file, none of which has a fault, and what a reader makes of them.
-use Rattle.std.specs.Prelude.{◌≡◌, ◌≤◌, ℕ, Bool, true, false, ◌++◌, List, [], ◌∷◌, length, map, Option, Some, None, if◌then◌else◌}
+use Rattle.std.specs.Prelude.{◌≡◌, ◌<◌, ◌≤◌, ℕ, Bool, true, false, ◌++◌, List, [], ◌∷◌, length, map, Option, Some, None, if◌then◌else◌}
 use Rattle.std.specs.List.{list_any, list_all, position_or_len}
 use Rattle.std.specs.Str.{bytes_eq}
 use Rattle.xc_base.specs.Words.{is_name}
+use Rattle.xc_theory.specs.Lattices.{IsWellShaped, size, below}
 use Rattle.xc_order.specs.declared.order.Pair.{Pair}
 use Rattle.xc_lattice.specs.declared.statement.Statement.{Statement}
 use Rattle.xc_lattice.specs.declared.statement.Statement.TheVariants.{Lattice, Elements, Below, Not}
-use Rattle.xc_lattice.specs.LatticeFiles.{is_among, has_twice, negates}
+use Rattle.xc_lattice.specs.LatticeFiles.{LatticeValue, is_among, has_twice, negates}
 
 -- a statement on elements of these names, which negates none that the statements before it negate
 abbrev pub IsFact : List (List ℕ) → List Statement → Statement → Type 0
@@ -71,3 +72,12 @@ negation_place names statements name = place_or_end names (negated_by statements
 -- the negations of the elements
 abbrev pub negations_of : List (List ℕ) → List Statement → List ℕ
 negations_of names statements = map (negation_place names statements) names
+
+-- a value that can be judged by the laws: of 2 to 64 elements, each with a name and a negation, and an order
+pub record IsReady (v : LatticeValue) : Type 0 where
+  pub shape : IsWellShaped v.algebra
+  pub reflexive : (a : ℕ) → a < size v.algebra → below v.algebra a a ≡ true
+  pub transitive : (a b c : ℕ) → a < size v.algebra → b < size v.algebra → c < size v.algebra → below v.algebra a b ≡ true → below v.algebra b c ≡ true → below v.algebra a c ≡ true
+  pub named : length v.names ≡ size v.algebra
+  pub some : 2 ≤ size v.algebra
+  pub few : size v.algebra ≤ 64
