@@ -1,3 +1,4 @@
+pub mod Ends
 pub mod Deciding
 pub mod Drafts
 pub mod Names

@@ -2,7 +2,7 @@
 use Rattle.std.proofs.Common.{◌≡◌, ℕ, suc, ◌+◌, ◌<◌, ◌≤◌, Bool, true, false, cond, if◌then◌else◌, not, nat_lt, ◌||◌, List, [], ◌∷◌, ◌++◌, Option, Some, None, unwrap_or, length, get_or, drop, drop-cons, add-one, refl, arith}
 use Rattle.std.specs.List.{list_any, find, position}
 use Rattle.std.specs.Str.{bytes_eq}
-use Rattle.std.proofs.lemmas.Bool.{ltb-false}
+use Rattle.std.proofs.lemmas.Bool.{ltb-false, ltb-true}
 use Rattle.std.proofs.lemmas.List.Sums.{prefix_len-le-length}
 use Rattle.xc_lattice.specs.Drafts.{file_name, pairs_of, negated_by, place_of}
 use Rattle.xc_lattice.specs.declared.statement.Statement.{Statement}
@@ -59,3 +59,11 @@ pub missing_late : (statements : List Statement) → 2 ≤ length statements →
 missing_late [] h = absurd (omega arith)
 missing_late (s ∷ []) h = absurd (omega arith)
 missing_late (s ∷ t ∷ more) h = refl
+
+-- a place that a search finds is in range
+some_below : (m n k : ℕ) (b : Bool) → nat_lt m n ≡ b → cond b (Some m) None ≡ Some k → k < n
+some_below m n k true e h = let same : m ≡ k = cc in omega (arith, ltb-true m n e)
+some_below m n k false e h = cc
+
+pub found_in_range : (names : List (List ℕ)) (name : List ℕ) (k : ℕ) → position (bytes_eq name) names ≡ Some k → k < length names
+found_in_range names name k h = some_below (place_of names name) (length names) k (nat_lt (place_of names name) (length names)) refl h

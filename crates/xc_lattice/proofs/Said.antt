@@ -209,6 +209,16 @@ module _ (ss : List Statement) (d : IsDraft ss) (whole : missing_part ss ≡ Non
       subst (λ (ns : List (List ℕ)). negations ≡ negations_of ns ss → IsSpannedBy (length ns) (IsListed (pairs_of ns ss)) table → Says ss (record { name = d.name; names = ns; algebra = record { order = table; negations = negations } })) same (gathered_says negations table) in
     subst (λ (n : List ℕ). Says ss (record { name = n; names = names; algebra = record { order = table; negations = negations } })) (the_file_name name en) (of_names e h)
 
+  -- with copies of the names that are read
+  pub says_read : (name n : List ℕ) (names read : List (List ℕ)) (pairs : List Pair) (negations : List ℕ) (table : List (List Bool))
+      → Some n ≡ file_name ss → read ≡ element_names ss → pairs ≡ pairs_of read ss → IsSpannedBy (length read) (IsListed pairs) table → negations ≡ negations_of read ss
+      → name ≡ n → names ≡ read → Says ss (record { name = name; names = names; algebra = record { order = table; negations = negations } })
+  says_read name n names read pairs negations table en es ep h e same_name same_names =
+    let of_read : Says ss (record { name = n; names = read; algebra = record { order = table; negations = negations } }) =
+      says_gathered n read negations table (sym en) es e (subst (λ (ps : List Pair). IsSpannedBy (length read) (IsListed ps) table) ep h) in
+    subst (λ (x : List ℕ). Says ss (record { name = x; names = names; algebra = record { order = table; negations = negations } })) (sym same_name)
+    (subst (λ (xs : List (List ℕ)). Says ss (record { name = n; names = xs; algebra = record { order = table; negations = negations } })) (sym same_names) of_read)
+
 -- what a reader may ask of the statements of a whole file
 module _ (ss : List Statement) (d : IsDraft ss) where
   pub elements_in_limits : (2 ≤ length (element_names ss)) × (length (element_names ss) ≤ 64)

@@ -3,3 +3,5 @@ pub mod Deciding
 pub mod Drafts
 pub mod LatticeFiles
 pub mod Laws
+pub mod Stops
+pub mod Values

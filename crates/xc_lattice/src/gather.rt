@@ -2,14 +2,24 @@ ghost use Rattle.std.specs.Prelude.{◌≡◌, ◌≤◌, ◌++◌, ◌∷◌, [
 ghost use Rattle.std.specs.List.{list_any, position};
 ghost use Rattle.std.specs.Str.{bytes_eq};
 ghost use Rattle.std.specs.Option.{option_copied};
-ghost use Rattle.xc_lattice.specs.LatticeFiles.{element_names, negates, negation_part, missing_part};
-ghost use Rattle.xc_lattice.specs.Drafts.{file_name, place_of, pairs_of, negated_by, negation_place, negations_of};
+ghost use Rattle.xc_lattice.specs.LatticeFiles.{element_names, negates, negation_part, missing_part, Says};
+ghost use Rattle.xc_lattice.specs.Values.{said};
+ghost use Rattle.xc_lattice.specs.Drafts.{IsDraft, file_name, place_of, pairs_of, negated_by, negation_place, negations_of};
 
 use crate::judge::{element_names, is_negated, is_same};
 use crate::statement::Statement;
 use std::alloc::Global;
 use xc_base::{List, Memory, Part, Word};
-use xc_order::Pair;
+use xc_order::{Order, Pair};
+
+/// What the statements of a file say, with no law looked at.
+#[derive(Debug, Drop)]
+pub(crate) struct Draft {
+    pub(crate) name: Word,
+    pub(crate) names: List<Word>,
+    pub(crate) order: Order,
+    pub(crate) negations: List<u8>,
+}
 
 fn first_open(statements: &[Statement]) -> Option<&Word>
     ensures { option_copied result
@@ -67,11 +77,22 @@ fn copy_names(alloc: Global, names: &[Word]) -> Result<List<Word>, Memory>
     Ok(copies)
 }
 
-/// The place of a name among names, where it is among them.
-pub(crate) fn find_name(names: &[Word], name: &Word) -> Option<usize>
+fn position_of(names: &[Word], name: &Word) -> Option<usize>
     ensures { result ≡ position (bytes_eq name.now) names.now }
 {
     names.iter().position(|x| is_same(name, x))
+}
+
+/// The place of a name among at most 64 names, where it is among them.
+#[tactic(auto, using(crate::proofs::Names::found_in_range))]
+pub(crate) fn find_name(names: &[Word], name: &Word) -> Option<u8>
+    requires { length names.now ≤ 64 }
+    ensures { result ≡ position (bytes_eq name.now) names.now }
+{
+    match position_of(names, name) {
+        Some(place) => Some(place as u8),
+        None => None,
+    }
 }
 
 /// The place of a name among names, and their number where it is not among them.
@@ -80,7 +101,7 @@ fn place_of(names: &[Word], name: &Word) -> u8
     requires { length names.now ≤ 64 }
     ensures { result ≡ place_of names.now name.now }
 {
-    find_name(names, name).unwrap_or(names.len()) as u8
+    find_name(names, name).unwrap_or(names.len() as u8)
 }
 
 fn push_pair(names: &[Word], s: &Statement, pairs: &mut List<Pair>) -> Result<(), Memory>
@@ -150,4 +171,28 @@ fn negations_of(alloc: Global, names: &[Word], statements: &[Statement]) -> Resu
         negations.push(negation_place(names, statements, name))?;
     }
     Ok(negations)
+}
+
+/// What the statements of a whole file say.
+#[tactic(auto, using(crate::proofs::Said::elements_in_limits, crate::proofs::Said::elements_paired, crate::proofs::Said::file_is_named))]
+pub(crate) fn gather(alloc: Global, statements: &[Statement]) -> Result<Draft, Memory>
+    requires draft { IsDraft statements.now }
+    requires whole { missing_part statements.now ≡ None }
+    ensures { IfOk result (λ d. Says statements.now (said d)) }
+{
+    let Some(name) = file_name(statements) else {
+        unreachable!()
+    };
+    let names = element_names(statements);
+    let pairs = pairs_of(alloc, names, statements)?;
+    let order = Order::of(alloc, names.len() as u8, &pairs)?;
+    let negations = negations_of(alloc, names, statements)?;
+    let name = name.copy(alloc)?;
+    let names = copy_names(alloc, names)?;
+    Ok(Draft {
+        name,
+        names,
+        order,
+        negations,
+    })
 }
