@@ -1,8 +1,10 @@
+pub mod BreakRange
 pub mod Ends
 pub mod Deciding
 pub mod Drafts
 pub mod Names
 pub mod Places
+pub mod Reading
 pub mod Said
 pub mod Tokens
 pub mod Values
