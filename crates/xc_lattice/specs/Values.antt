@@ -1,5 +1,5 @@
 -- The values that lattices stand for, and the faults of lattice files.
-use Rattle.std.specs.Prelude.{◌≡◌, ℕ, List, map, Some}
+use Rattle.std.specs.Prelude.{◌≡◌, ℕ, List, map, Some, None}
 use Rattle.xc_base.specs.Formats.{Row}
 use Rattle.xc_lattice.specs.Breaks.{first_break}
 use Rattle.xc_lattice.specs.LatticeFiles.{LatticeValue, IsVerdict, name_at}
@@ -36,3 +36,8 @@ abbrev pub IsRefusal : LatticeValue → LatFault → Type 0
 IsRefusal v (File fault) = ⊥
 IsRefusal v (Broken law names) = IsFirstBreak v law names
 IsRefusal v Memory = Unit {0}
+
+-- the lattice is the value, which breaks no law
+pub record IsAdmitted (v : LatticeValue) (l : Lattice) : Type 0 where
+  pub same : value_of l ≡ v
+  pub unbroken : first_break v.algebra ≡ None

@@ -1,6 +1,7 @@
 //! Lattice files, and the laws that make a lattice of them.
 #![tactic(auto)]
 
+mod admit;
 mod breaks;
 mod decide;
 mod fault;
