@@ -1,1 +1,4 @@
 pub mod Breaks
+pub mod Tuples
+pub mod Tables
+pub mod Bounded
