@@ -1,5 +1,4 @@
 -- The lattice data that an order with negations is.
-use Rattle.std.specs.Prelude.{ℕ, List, Bool}
 use Rattle.xc_theory.specs.Lattices.{LatticeData}
 use Rattle.xc_lattice.specs.declared.bounded.Bounded.{Bounded}
 

@@ -31,7 +31,11 @@ impl<'a> Bounded<'a> {
     ghost use Rattle.xc_lattice.specs.Bounded.{lattice_of};
 
     /// An order and the negation of each element, with tables of all bounds.
-    pub(crate) fn of(alloc: Global, order: &'a Order, negations: &'a [u8]) -> Result<Bounded<'a>, Memory>
+    pub(crate) fn of(
+        alloc: Global,
+        order: &'a Order,
+        negations: &'a [u8],
+    ) -> Result<Bounded<'a>, Memory>
         requires one_each { length negations.now ≡ length order.now }
         requires in_range { All (λ m. m < length order.now) negations.now }
         ensures order { IfOk result (λ l. l.order.now ≡ order.now) }

@@ -6,4 +6,5 @@ mod breaks;
 mod law;
 mod tuple;
 
+pub use breaks::lattices_without_break_are_lawful;
 pub use law::Law;
