@@ -1,7 +1,10 @@
 pub mod BreakRange
-pub mod Ends
+pub mod Breaking
 pub mod Deciding
 pub mod Drafts
+pub mod Ends
+pub mod Finding
+pub mod Lawful
 pub mod Names
 pub mod Places
 pub mod Reading

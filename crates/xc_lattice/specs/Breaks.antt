@@ -1,5 +1,5 @@
 -- Which law of a lattice fails first, and at which elements.
-use Rattle.std.specs.Prelude.{ℕ, suc, zero, Bool, true, false, ◌==◌, ◌&&◌, not, List, [], ◌∷◌, map, find, Option, Some, None, is_none}
+use Rattle.std.specs.Prelude.{ℕ, suc, zero, Bool, false, ◌==◌, ◌&&◌, not, List, [], ◌∷◌, map, find, Option, Some, None, is_none}
 use Rattle.std.specs.List.{flat_map, range_with_len}
 use Rattle.xc_theory.specs.Bounds.{first_meet, first_join}
 use Rattle.xc_theory.specs.Lattices.{LatticeData, size, below, meet, join, negation}

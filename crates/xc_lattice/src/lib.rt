@@ -2,6 +2,7 @@
 #![tactic(auto)]
 
 mod admit;
+mod bounded;
 mod breaks;
 mod decide;
 mod fault;
@@ -11,8 +12,10 @@ mod lattice;
 mod law;
 mod read;
 mod statement;
+mod tuple;
 mod verdict;
 
+pub use breaks::lattices_without_break_are_lawful;
 pub use fault::LatFault;
 pub use lattice::Lattice;
 pub use law::Law;

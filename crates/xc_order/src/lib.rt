@@ -6,3 +6,6 @@ mod height;
 mod order;
 
 pub use order::{Order, Pair};
+
+#[cfg(test)]
+mod tests;

@@ -1,9 +1,9 @@
 -- The first bounds that the tests find are the bounds, and there is one at most in an antisymmetric order.
-use Rattle.std.proofs.Common.{◌≡◌, ℕ, ◌<◌, Bool, true, false, ◌&&◌, ◌||◌, not, List, length, refl, arith}
+use Rattle.std.proofs.Common.{◌≡◌, ℕ, ◌<◌, Bool, true, false, ◌&&◌, ◌||◌, not, List, length, refl, arith, Option, Some, None, unwrap_or}
 use Rattle.std.specs.List.{list_all, range_with_len}
 use Rattle.std.proofs.lemmas.Bool.{and_parts, and_from, both_ways}
 use Rattle.xc_theory.specs.Orders.{is_below, IsAntisymmetric}
-use Rattle.xc_theory.specs.Bounds.{is_lower_bound, is_upper_bound, is_meet, is_join, IsMeet, IsJoin, first_meet, first_join}
+use Rattle.xc_theory.specs.Bounds.{is_lower_bound, is_upper_bound, is_meet, is_join, IsMeet, IsJoin, first_meet, first_join, meet_of, join_of}
 use Rattle.xc_theory.specs.Laws.{MeetsAreFound, JoinsAreFound, NoOtherMeets, NoOtherJoins}
 use Rattle.xc_theory.proofs.Ranges.{find_range-Some, find_range-None, all_range_at, all_range_from}
 
@@ -75,3 +75,14 @@ meets_are_unique table xs m k anti hm hk =
 pub joins_are_unique : (table : List (List Bool)) (xs : List ℕ) (m k : ℕ) → IsAntisymmetric table → IsJoin table xs m → IsJoin table xs k → m ≡ k
 joins_are_unique table xs m k anti hm hk =
     anti m k hm.in_range hk.in_range (hm.least k hk.in_range hk.upper) (hk.least m hm.in_range hm.upper)
+
+-- an element where there is one, and else element 0, is an element
+or_zero-lt : (o : Option ℕ) (n : ℕ) → 0 < n → ((m : ℕ) → o ≡ Some m → m < n) → unwrap_or o 0 < n
+or_zero-lt None n positive h = positive
+or_zero-lt (Some m) n positive h = h m refl
+
+pub meet_of_lt : (table : List (List Bool)) (xs : List ℕ) → 0 < length table → meet_of table xs < length table
+meet_of_lt table xs positive = or_zero-lt (first_meet table xs) (length table) positive (λ m e. (meets_are_found table xs m e).in_range)
+
+pub join_of_lt : (table : List (List Bool)) (xs : List ℕ) → 0 < length table → join_of table xs < length table
+join_of_lt table xs positive = or_zero-lt (first_join table xs) (length table) positive (λ m e. (joins_are_found table xs m e).in_range)
