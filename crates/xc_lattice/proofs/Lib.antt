@@ -1,3 +1,4 @@
+pub mod Admitting
 pub mod BreakRange
 pub mod Breaking
 pub mod Deciding
