@@ -5,6 +5,7 @@ pub mod Deciding
 pub mod Drafts
 pub mod Ends
 pub mod Finding
+pub mod Judged
 pub mod Lawful
 pub mod Names
 pub mod Places
