@@ -13,6 +13,8 @@ mod law;
 mod reader;
 mod rows;
 mod statement;
+#[cfg(test)]
+mod tests;
 mod tuple;
 mod verdict;
 
