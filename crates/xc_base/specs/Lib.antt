@@ -1,5 +1,7 @@
 pub mod Cutting
+pub mod Deciding
 pub mod Formats
+pub mod Judging
 pub mod Lines
 pub mod Shelves
 pub mod Sinks

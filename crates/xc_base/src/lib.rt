@@ -4,6 +4,7 @@
 mod cut;
 mod fault;
 mod file_shelf;
+mod formats;
 mod lines;
 mod list;
 mod memory;
@@ -17,6 +18,7 @@ mod word;
 pub use cut::cut_lines;
 pub use fault::{Counted, FileFault, Part, Stop, TextFault};
 pub use file_shelf::FileShelf;
+pub use formats::{FileKind, files_are_judged_once};
 pub use lines::{Lexeme, Line, Lines, Token};
 pub use list::{Bytes, List};
 pub use memory::Memory;

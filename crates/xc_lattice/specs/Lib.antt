@@ -1,2 +1,11 @@
+pub mod Bounded
 pub mod Breaks
+pub mod Deciding
+pub mod Drafts
 pub mod LatticeFiles
+pub mod Lawful
+pub mod Laws
+pub mod Stops
+pub mod Tables
+pub mod Tuples
+pub mod Values

@@ -1,9 +1,27 @@
 //! Lattice files, and the laws that make a lattice of them.
 #![tactic(auto)]
 
-
+mod admit;
+mod bounded;
+mod breaks;
+mod decide;
+mod fault;
+mod gather;
+mod judge;
+mod lattice;
 mod law;
+mod reader;
+mod rows;
 mod statement;
+#[cfg(test)]
+mod tests;
+mod tuple;
+mod verdict;
 
+pub use breaks::lattices_without_break_are_lawful;
+pub use fault::LatFault;
+pub use lattice::Lattice;
 pub use law::Law;
+pub use reader::read;
 pub use statement::Statement;
+pub use verdict::{LatticeFiles, verdicts_are_unique};

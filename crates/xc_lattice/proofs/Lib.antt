@@ -1,0 +1,16 @@
+pub mod Admitting
+pub mod BreakRange
+pub mod Breaking
+pub mod Deciding
+pub mod Drafts
+pub mod Ends
+pub mod Finding
+pub mod Judged
+pub mod Lawful
+pub mod Names
+pub mod Places
+pub mod Reading
+pub mod Said
+pub mod Tokens
+pub mod Values
+pub mod Verdicts
