@@ -8,3 +8,6 @@ mod tuple;
 
 pub use breaks::lattices_without_break_are_lawful;
 pub use law::Law;
+
+#[cfg(test)]
+mod breaks_tests;
