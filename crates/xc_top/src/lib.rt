@@ -1,13 +1,12 @@
-// A library with one function.
+//! The program: what the words ask for, from the files to the text that is written.
 #![tactic(auto)]
 
-ghost use Rattle.std.specs.Prelude.{◌≡◌};
-ghost use Rattle.xc_top.specs.Echo.{echo_of};
+mod halt;
+mod prepare;
+mod program;
+mod request;
+mod status;
+mod text;
 
-// The `ensures` clause is the contract: what `echo` returns is `echo_of` of its argument, a definition
-// in `specs/Echo.antt`, which a caller's clause can cite too.
-pub fn echo(x: usize) -> usize
-    ensures { result ≡ echo_of x }
-{
-    x
-}
+pub use program::run;
+pub use status::Status;

@@ -1,0 +1,4 @@
+pub mod Judging
+pub mod Preparing
+pub mod Outcomes
+pub mod Serving

@@ -1,0 +1,122 @@
+-- What a call of `run` does, in eight parts. What is said of files holds where the shelf tells them, and what is said of
+-- out and err where they tell their bytes.
+use Rattle.std.specs.Prelude.{◌≡◌, ◌≢◌, ℕ, Bool, true, false, List, [], ◌∷◌, ◌++◌, Option, Some, None, IfSome, map}
+use Rattle.xc_base.specs.Shelves.{Told, Shelved, HasRisen, has_risen}
+use Rattle.xc_base.specs.Sinks.{Sunk, AddsWhole, AddsPart, AddsFront, AddsNothing}
+use Rattle.xc_base.specs.declared.shelf.File.{File}
+use Rattle.xc_top.specs.Outcomes.{Outcome, Absent, Refusal, Served, IsOutcome, IsReached}
+use Rattle.xc_top.specs.Requests.{Request, request_of}
+use Rattle.xc_top.specs.Texts.{words_line, read_line, write_line, memory_line}
+use Rattle.xc_top.specs.declared.status.Status.{Status}
+use Rattle.xc_top.specs.declared.status.Status.TheVariants.{Done, No, Words, Refused, ReadFault, WriteFault, Memory}
+
+-- P holds of the outcome of the words, where the shelf tells its files
+abbrev pub ForOutcome : List (List ℕ) → Shelved → (Outcome → Type 0) → Type 0
+ForOutcome words shelf P = IfSome shelf.told (λ told. (outcome : Outcome) → IsOutcome words told.files outcome → P outcome)
+
+-- the outcome is a refusal, and P holds of its line
+abbrev pub IsRefusal : (List ℕ → Type 0) → Outcome → Type 0
+IsRefusal P (Refusal line) = P line
+IsRefusal P (Absent name) = ⊥
+IsRefusal P (Served status text) = ⊥
+
+-- the outcome is served, and P holds of its status and its text
+abbrev pub IsServed : (Status → List ℕ → Type 0) → Outcome → Type 0
+IsServed P (Served status text) = P status text
+IsServed P (Absent name) = ⊥
+IsServed P (Refusal line) = ⊥
+
+-- err got a front of the line, and the whole line unless its count of faults or its count of wants rose
+pub record GetsLine (line : List ℕ) (old new : Sunk) : Type 0 where
+  pub front : AddsFront line old.bytes new.bytes
+  pub whole : has_risen old.faults new.faults ≡ false → has_risen old.wants new.wants ≡ false → AddsWhole line old.bytes new.bytes
+
+-- The status is Words exactly where the words are no request, but for want of memory; out then gets nothing.
+pub record AnswersNoRequest (words : List (List ℕ)) (old new : Sunk) (status : Status) : Type 0 where
+  pub only : status ≡ Words → request_of words ≡ None
+  pub always : request_of words ≡ None → status ≢ Memory → status ≡ Words
+  pub out : status ≡ Words → AddsNothing old.bytes new.bytes
+
+-- The status is Refused only where the outcome is a refusal, whose line err gets; out gets nothing.
+pub record AnswersRefusal (words : List (List ℕ)) (shelf : Shelved) (old new err err_after : Sunk) (status : Status) : Type 0 where
+  pub only : status ≡ Refused → ForOutcome words shelf (IsRefusal (λ line. GetsLine line err err_after))
+  pub out : status ≡ Refused → AddsNothing old.bytes new.bytes
+
+-- The status is Done or No only where the outcome is served with that status; out gets its whole text.
+pub record AnswersService (words : List (List ℕ)) (shelf : Shelved) (old new : Sunk) (status : Status) : Type 0 where
+  pub done : status ≡ Done → ForOutcome words shelf (IsServed (λ s text. (s ≡ Done) × AddsWhole text old.bytes new.bytes))
+  pub no : status ≡ No → ForOutcome words shelf (IsServed (λ s text. (s ≡ No) × AddsWhole text old.bytes new.bytes))
+
+-- A load failed of a name that the words' request may reach, and P holds of the name. Where files are told, that load is
+-- reached over them, and the names whose loads failed are those before the call and this one.
+pub record FailedOnce (request : Request) (shelf shelf_after : Shelved) (P : List ℕ → Type 0) : Type 0 where
+  pub name : List ℕ
+  pub told : P name
+  pub failed : IfSome shelf.told (λ told. IsReached request told.files name × (shelf_after.told ≡ Some (record told { failed = told.failed ++ name ∷ [] })))
+
+-- The status is ReadFault only where the shelf's count of faults rose, by one load that failed, which err's line names;
+-- out gets nothing.
+pub record AnswersReadFault (words : List (List ℕ)) (shelf shelf_after : Shelved) (old new err err_after : Sunk) (status : Status) : Type 0 where
+  pub counted : status ≡ ReadFault → HasRisen shelf.faults shelf_after.faults
+  pub once : status ≡ ReadFault → IfSome (request_of words) (λ request. FailedOnce request shelf shelf_after (λ name. GetsLine (read_line name) err err_after))
+  pub out : status ≡ ReadFault → AddsNothing old.bytes new.bytes
+
+-- The status is WriteFault only where out's count of faults rose and the outcome is served; out gets a front of the text
+-- that lacks something.
+pub record AnswersWriteFault (words : List (List ℕ)) (shelf : Shelved) (old new : Sunk) (status : Status) : Type 0 where
+  pub counted : status ≡ WriteFault → HasRisen old.faults new.faults
+  pub part : status ≡ WriteFault → ForOutcome words shelf (IsServed (λ s text. AddsPart text old.bytes new.bytes))
+
+-- out gets a front of the text of a served outcome, and else nothing
+abbrev pub AddsAtMost : Option (List ℕ) → Option (List ℕ) → Outcome → Type 0
+AddsAtMost old new (Served status text) = AddsFront text old new
+AddsAtMost old new (Absent name) = AddsNothing old new
+AddsAtMost old new (Refusal line) = AddsNothing old new
+
+pub record AnswersMemory (words : List (List ℕ)) (shelf : Shelved) (old new : Sunk) (status : Status) : Type 0 where
+  pub asked : status ≡ Memory → ForOutcome words shelf (AddsAtMost old.bytes new.bytes)
+  pub unasked : status ≡ Memory → request_of words ≡ None → AddsNothing old.bytes new.bytes
+
+-- the status that an outcome has where nothing fails
+abbrev pub status_of : Outcome → Status
+status_of (Absent name) = ReadFault
+status_of (Refusal line) = Refused
+status_of (Served status text) = status
+
+-- whether the outcome is that of a load that is reached of a name that is not held
+abbrev pub is_absent : Outcome → Bool
+is_absent (Absent name) = true
+is_absent (Refusal line) = false
+is_absent (Served status text) = false
+
+-- Where the counts of faults of the shelf and of out did not rise, the status is that of the outcome, but for want of
+-- memory; and a load that is reached of a name that is not held is a read fault whatever the counts are.
+pub record IsComplete (words : List (List ℕ)) (shelf shelf_after : Shelved) (old new : Sunk) (status : Status) : Type 0 where
+  pub steady : has_risen shelf.faults shelf_after.faults ≡ false → has_risen old.faults new.faults ≡ false → status ≢ Memory → ForOutcome words shelf (λ outcome. is_absent outcome ≡ false → status ≡ status_of outcome)
+  pub absent : status ≢ Memory → ForOutcome words shelf (λ outcome. is_absent outcome ≡ true → status ≡ ReadFault)
+
+-- over some files the outcome is a refusal with that line
+pub record MayRefuse (words : List (List ℕ)) (line : List ℕ) : Type 0 where
+  pub files : List File
+  pub refused : IsOutcome words files (Refusal line)
+
+-- err gets nothing where the request is served, and else the one line of the status
+abbrev pub GetsLineOf : List (List ℕ) → Sunk → Sunk → Status → Type 0
+GetsLineOf words err err_after Done = AddsNothing err.bytes err_after.bytes
+GetsLineOf words err err_after No = AddsNothing err.bytes err_after.bytes
+GetsLineOf words err err_after Words = GetsLine words_line err err_after
+GetsLineOf words err err_after Refused = (line : List ℕ) × MayRefuse words line × GetsLine line err err_after
+GetsLineOf words err err_after ReadFault = (name : List ℕ) × GetsLine (read_line name) err err_after
+GetsLineOf words err err_after WriteFault = GetsLine write_line err err_after
+GetsLineOf words err err_after Memory = GetsLine memory_line err err_after
+
+-- the files stay as they were, and are told as before
+abbrev pub TellsSame : Option Told → Option Told → Type 0
+TellsSame None new = new ≡ None
+TellsSame (Some old) None = ⊥
+TellsSame (Some old) (Some new) = (new.files ≡ old.files) × (new.steady ≡ old.steady)
+
+-- Err gets the line of the status and nothing else, and the files stay as they were.
+pub record KeepsTheRest (words : List (List ℕ)) (shelf shelf_after : Shelved) (err err_after : Sunk) (status : Status) : Type 0 where
+  pub line : GetsLineOf words err err_after status
+  pub files : TellsSame shelf.told shelf_after.told

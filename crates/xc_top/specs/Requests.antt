@@ -1,0 +1,12 @@
+-- What the words of a command ask for.
+use Rattle.std.specs.Prelude.{ℕ, Bool, if◌then◌else◌, List, [], ◌∷◌, Option, Some, None, codes}
+use Rattle.std.specs.Str.{bytes_eq}
+
+-- to judge the lattice in the file of that name
+pub data Request : Type 0 where
+  LatticeOf : List ℕ → Request
+
+-- `lattice FILE`, and nothing else
+abbrev pub request_of : List (List ℕ) → Option Request
+request_of (mode ∷ file ∷ []) = if bytes_eq mode (codes "lattice") then Some (LatticeOf file) else None
+request_of _ = None

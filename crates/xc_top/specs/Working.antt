@@ -1,0 +1,88 @@
+-- What the parts of `run` do.
+use Rattle.std.specs.Prelude.{◌≡◌, ℕ, List, [], ◌∷◌, ◌++◌, option_map, Option, None, IsSome, IfSome, Result, Ok, Err}
+use Rattle.std.specs.String.{string_bytes}
+use Rattle.xc_base.specs.Shelves.{Told, Shelved, HasRisen, IsLoaded}
+use Rattle.xc_base.specs.declared.shelf.File.{File}
+use Rattle.xc_top.specs.Outcomes.{Outcome, Absent, Refusal, Served, IsCourse, IsReached, LatticeTasks}
+use Rattle.xc_top.specs.Requests.{Request, request_of}
+use Rattle.xc_top.specs.Texts.{read_line}
+use Rattle.xc_top.specs.Headline.{FailedOnce, ForOutcome, IsServed, IsRefusal, MayRefuse, AddsAtMost, GetsLine}
+use Rattle.xc_top.specs.Asked.{halt_status, halt_line}
+use Rattle.xc_base.specs.Sinks.{Sunk, AddsWhole, AddsPart, AddsNothing}
+use Rattle.xc_top.specs.declared.halt.Halt.{Halt}
+use Rattle.xc_top.specs.declared.halt.Halt.TheVariants.{Words, Refused, ReadFault, WriteFault, Memory}
+use Rattle.xc_top.specs.declared.prepare.Answer.{Answer}
+use Rattle.xc_top.specs.declared.prepare.Passed.{Passed}
+use Rattle.xc_top.specs.declared.prepare.Passed.TheVariants as passed
+use Rattle.xc_top.specs.declared.status.Status.{Status}
+use Rattle.xc_top.specs.declared.status.Status.TheVariants.{Done, No}
+
+abbrev pub passed_status : Passed → Status
+passed_status passed.Done = Done
+passed_status passed.No = No
+
+abbrev pub outcome_of : Answer → Outcome
+outcome_of a = Served (passed_status a.passed) (string_bytes a.text)
+
+-- the work that P stands for comes to this answer, or to this refusal
+abbrev pub ComesTo : (Outcome → Type 0) → Result Answer Halt → Type 0
+ComesTo P (Ok answer) = P (outcome_of answer)
+ComesTo P (Err (Refused line)) = P (Refusal (string_bytes line))
+ComesTo P (Err Memory) = Unit {0}
+ComesTo P (Err Words) = ⊥
+ComesTo P (Err (ReadFault line)) = ⊥
+ComesTo P (Err WriteFault) = ⊥
+
+-- A load failed of that name: its line for err names it, and where files are told so are the failed names.
+pub record FailedAt (name : List ℕ) (shelf shelf_after : Shelved) (line : List ℕ) : Type 0 where
+  pub named : line ≡ read_line name
+  pub counted : HasRisen shelf.faults shelf_after.faults
+  pub told : shelf_after.told ≡ option_map (λ (told : Told). record told { failed = told.failed ++ name ∷ [] }) shelf.told
+
+abbrev pub IsLoadHalt : List ℕ → Shelved → Shelved → Halt → Type 0
+IsLoadHalt name shelf shelf_after (ReadFault line) = FailedAt name shelf shelf_after (string_bytes line)
+IsLoadHalt name shelf shelf_after Memory = Unit {0}
+IsLoadHalt name shelf shelf_after Words = ⊥
+IsLoadHalt name shelf shelf_after (Refused line) = ⊥
+IsLoadHalt name shelf shelf_after WriteFault = ⊥
+
+-- the request's outcome over some files is a refusal with that line
+pub record CanRefuse (request : Request) (line : List ℕ) : Type 0 where
+  pub files : List File
+  pub refused : IsCourse request files (Refusal line)
+
+-- what became of a request: where files are told, an answer or a refusal is its outcome
+abbrev pub IsPrepared : Request → Shelved → Shelved → Result Answer Halt → Type 0
+IsPrepared request shelf shelf_after (Ok answer) = IfSome shelf.told (λ told. IsCourse request told.files (outcome_of answer))
+IsPrepared request shelf shelf_after (Err (Refused line)) = CanRefuse request (string_bytes line) × IfSome shelf.told (λ told. IsCourse request told.files (Refusal (string_bytes line)))
+IsPrepared request shelf shelf_after (Err (ReadFault line)) = HasRisen shelf.faults shelf_after.faults × FailedOnce request shelf shelf_after (λ name. string_bytes line ≡ read_line name)
+IsPrepared request shelf shelf_after (Err Memory) = Unit {0}
+IsPrepared request shelf shelf_after (Err Words) = ⊥
+IsPrepared request shelf shelf_after (Err WriteFault) = ⊥
+
+-- writing stopped: out has a front of the text that lacks something
+abbrev pub IsWriteHalt : List ℕ → Sunk → Sunk → Halt → Type 0
+IsWriteHalt text old new WriteFault = HasRisen old.faults new.faults × AddsPart text old.bytes new.bytes
+IsWriteHalt text old new Memory = AddsPart text old.bytes new.bytes
+IsWriteHalt text old new Words = ⊥
+IsWriteHalt text old new (Refused line) = ⊥
+IsWriteHalt text old new (ReadFault line) = ⊥
+
+-- what serving words did: the request, its outcome, and what out got
+abbrev pub IsWorked : List (List ℕ) → Shelved → Shelved → Sunk → Sunk → Result Passed Halt → Type 0
+IsWorked words shelf shelf_after old new (Ok passed) = IsSome (request_of words) × ForOutcome words shelf (IsServed (λ status text. (status ≡ passed_status passed) × AddsWhole text old.bytes new.bytes))
+IsWorked words shelf shelf_after old new (Err Words) = (request_of words ≡ None) × AddsNothing old.bytes new.bytes
+IsWorked words shelf shelf_after old new (Err (Refused line)) = IsSome (request_of words) × MayRefuse words (string_bytes line) × ForOutcome words shelf (IsRefusal (λ l. string_bytes line ≡ l)) × AddsNothing old.bytes new.bytes
+IsWorked words shelf shelf_after old new (Err (ReadFault line)) = IsSome (request_of words) × HasRisen shelf.faults shelf_after.faults × IfSome (request_of words) (λ request. FailedOnce request shelf shelf_after (λ name. string_bytes line ≡ read_line name)) × AddsNothing old.bytes new.bytes
+IsWorked words shelf shelf_after old new (Err WriteFault) = IsSome (request_of words) × HasRisen old.faults new.faults × ForOutcome words shelf (IsServed (λ status text. AddsPart text old.bytes new.bytes))
+IsWorked words shelf shelf_after old new (Err Memory) = ForOutcome words shelf (AddsAtMost old.bytes new.bytes) × (request_of words ≡ None → AddsNothing old.bytes new.bytes)
+
+-- the status of what serving came to
+abbrev pub ended : Result Passed Halt → Status
+ended (Ok passed) = passed_status passed
+ended (Err halt) = halt_status halt
+
+-- err gets the line of a halt
+abbrev pub TellsErr : Result Passed Halt → Sunk → Sunk → Type 0
+TellsErr (Ok passed) err err_after = AddsNothing err.bytes err_after.bytes
+TellsErr (Err halt) err err_after = GetsLine (halt_line halt) err err_after

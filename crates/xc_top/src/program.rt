@@ -1,0 +1,87 @@
+ghost use Rattle.std.specs.Prelude.{◌≡◌, map, IfOk, IfErr, OnOk};
+ghost use Rattle.std.specs.String.{string_bytes};
+ghost use Rattle.xc_base.specs.Sinks.{AddsWhole};
+ghost use Rattle.xc_top.specs.Headline.{AnswersNoRequest, AnswersRefusal, AnswersService, AnswersReadFault, AnswersWriteFault, AnswersMemory, IsComplete, KeepsTheRest, TellsSame, GetsLine};
+ghost use Rattle.xc_top.specs.Working.{IsWriteHalt, IsWorked};
+
+use crate::halt::Halt;
+use crate::prepare::{Answer, Passed, prepare};
+use crate::request::requested;
+use crate::status::Status;
+use std::alloc::Global;
+use xc_base::{Shelf, Sink, SinkFault, put_all};
+
+/// Writes the text of an answer.
+fn deliver<W: Sink>(out: &mut W, answer: &Answer) -> Result<Passed, Halt>
+    ensures passed { IfOk result (λ p. p ≡ answer.now.passed) }
+    ensures whole { OnOk result (AddsWhole (string_bytes answer.now.text) (W.seen out.old).bytes (W.seen out.new).bytes) }
+    ensures stopped { IfErr result (IsWriteHalt (string_bytes answer.now.text) (W.seen out.old) (W.seen out.new)) }
+{
+    match put_all(out, answer.text.as_bytes()) {
+        Ok(()) => Ok(answer.passed),
+        Err(SinkFault::Failed) => Err(Halt::WriteFault),
+        Err(SinkFault::Memory) => Err(Halt::Memory),
+    }
+}
+
+#[tactic(auto, using(crate::proofs::Serving::halted, crate::proofs::Serving::delivered))]
+/// Reads what the words ask for, works on it, and writes the text.
+fn serve<S: Shelf, W: Sink>(
+    alloc: Global,
+    words: &[String],
+    shelf: &mut S,
+    out: &mut W,
+) -> Result<Passed, Halt>
+    ensures worked { IsWorked (map string_bytes words.now) (S.seen shelf.old) (S.seen shelf.new) (W.seen out.old) (W.seen out.new) result }
+    ensures files { TellsSame (S.seen shelf.old).told (S.seen shelf.new).told }
+{
+    let Some(request) = requested(words) else {
+        return Err(Halt::Words);
+    };
+    let answer = prepare(alloc, &request, shelf)?;
+    deliver(out, &answer)
+}
+
+/// Puts a line on err.
+fn tell<E: Sink>(err: &mut E, line: &str)
+    ensures { GetsLine line.now (E.seen err.old) (E.seen err.new) }
+{
+    let _ = put_all(err, line.as_bytes());
+}
+
+/// Does all that the program does, for the words after the program's name.
+///
+/// The files come from the shelf, the text goes to `out`, and a line to `err` where the request is not served.
+pub fn run<S: Shelf, W: Sink, E: Sink>(
+    alloc: Global,
+    words: &Vec<String>,
+    shelf: &mut S,
+    out: &mut W,
+    err: &mut E,
+) -> Status
+    // Words exactly where the words are no request.
+    ensures words { AnswersNoRequest (map string_bytes words.now.items) (W.seen out.old) (W.seen out.new) result }
+    // Refused only where the outcome is a refusal.
+    ensures refusal { AnswersRefusal (map string_bytes words.now.items) (S.seen shelf.old) (W.seen out.old) (W.seen out.new) (E.seen err.old) (E.seen err.new) result }
+    // Done and No only where the outcome is served so, with its whole text.
+    ensures service { AnswersService (map string_bytes words.now.items) (S.seen shelf.old) (W.seen out.old) (W.seen out.new) result }
+    // ReadFault only where one load failed.
+    ensures read_fault { AnswersReadFault (map string_bytes words.now.items) (S.seen shelf.old) (S.seen shelf.new) (W.seen out.old) (W.seen out.new) (E.seen err.old) (E.seen err.new) result }
+    // WriteFault only where out failed while the text of a served outcome was written.
+    ensures write_fault { AnswersWriteFault (map string_bytes words.now.items) (S.seen shelf.old) (W.seen out.old) (W.seen out.new) result }
+    // For want of memory out gets a front of a text.
+    ensures memory { AnswersMemory (map string_bytes words.now.items) (S.seen shelf.old) (W.seen out.old) (W.seen out.new) result }
+    // Where nothing fails the status is that of the outcome.
+    ensures complete { IsComplete (map string_bytes words.now.items) (S.seen shelf.old) (S.seen shelf.new) (W.seen out.old) (W.seen out.new) result }
+    // Err gets the line of the status, and the files stay.
+    ensures rest { KeepsTheRest (map string_bytes words.now.items) (S.seen shelf.old) (S.seen shelf.new) (E.seen err.old) (E.seen err.new) result }
+{
+    match serve(alloc, words.as_slice(), shelf, out) {
+        Ok(Passed::Done) => Status::Done,
+        Ok(Passed::No) => Status::No,
+        Err(halt) => {
+            tell(err, halt.line());
+            halt.status()
+        }
+    }
+}

@@ -1,0 +1,24 @@
+ghost use Rattle.std.specs.Prelude.{◌≡◌, map};
+ghost use Rattle.std.specs.Option.{option_map};
+ghost use Rattle.std.specs.String.{string_bytes};
+ghost use Rattle.xc_top.specs.Requests.{request_of};
+ghost use Rattle.xc_top.specs.Asked.{asked};
+
+/// What the words ask for.
+#[derive(Clone, Copy, Debug)]
+pub(crate) enum Request<'a> {
+    /// To judge the lattice in that file.
+    Lattice { file: &'a str },
+}
+
+/// What the words ask for, if they are a request.
+pub(crate) fn requested(words: &[String]) -> Option<Request<'_>>
+    ensures { option_map asked result ≡ request_of (map string_bytes words.now) }
+{
+    match words {
+        [mode, file] if mode.as_str() == "lattice" => Some(Request::Lattice {
+            file: file.as_str(),
+        }),
+        _ => None,
+    }
+}

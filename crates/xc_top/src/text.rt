@@ -1,0 +1,95 @@
+//! The texts that go to out and err.
+
+ghost use Rattle.std.specs.Prelude.{◌≡◌, ◌<◌, ◌++◌, length, IfOk, OnOk};
+ghost use Rattle.std.specs.String.{string_bytes};
+ghost use Rattle.xc_lattice.specs.LatticeFiles.{name_at};
+ghost use Rattle.xc_lattice.specs.Values.{value_of};
+ghost use Rattle.xc_top.specs.Texts.{lattice_text, broken_text, law_word, file_line, read_line};
+
+use std::alloc::{AllocError, Global};
+use xc_base::{List, Word};
+use xc_lattice::{Lattice, Law};
+
+/// The name of an element.
+fn name_of(lattice: &Lattice, element: u8) -> &str
+    requires { element < length (value_of lattice.now).names }
+    ensures { result.now ≡ name_at (value_of lattice.now).names element }
+{
+    lattice.names().get(element as usize).as_str()
+}
+
+/// Appends a label and a value to a text.
+fn push_both(text: &mut String, label: &str, value: &str) -> Result<(), AllocError>
+    ensures { OnOk result (string_bytes text.new ≡ string_bytes text.old ++ label.now ++ value.now) }
+{
+    text.push_str(label)?;
+    text.push_str(value)?;
+    Ok(())
+}
+
+/// The text for a lattice of that height.
+pub(crate) fn lattice_line(
+    alloc: Global,
+    lattice: &Lattice,
+    height: u32,
+) -> Result<String, AllocError>
+    ensures { IfOk result (λ t. string_bytes t ≡ lattice_text (value_of lattice.now) height) }
+{
+    let size = lattice.size();
+    let count = format!(in alloc; "{size}")?;
+    let height = format!(in alloc; "{height}")?;
+    let mut text = String::new(alloc);
+    push_both(&mut text, "lattice ", lattice.name().as_str())?;
+    push_both(&mut text, " elements ", count.as_str())?;
+    push_both(&mut text, " height ", height.as_str())?;
+    push_both(&mut text, " bottom ", name_of(lattice, lattice.bottom()))?;
+    push_both(&mut text, " top ", name_of(lattice, lattice.top()))?;
+    text.push_str("\n")?;
+    Ok(text)
+}
+
+/// The word of a law.
+fn word_of(law: Law) -> &'static str
+    ensures { result.now ≡ law_word law }
+{
+    match law {
+        Law::Antisymmetry => "antisymmetry",
+        Law::Meet => "meet",
+        Law::Join => "join",
+        Law::Distributive => "distributive",
+        Law::Involution => "involution",
+        Law::Antitone => "antitone",
+    }
+}
+
+/// The text for a file that breaks a law.
+pub(crate) fn broken_line(
+    alloc: Global,
+    law: Law,
+    elements: &List<Word>,
+) -> Result<String, AllocError>
+    ensures { IfOk result (λ t. string_bytes t ≡ broken_text law elements.now) }
+{
+    let mut text = String::from_str(alloc, "broken ")?;
+    text.push_str(word_of(law))?;
+    for element in elements.as_slice() {
+        text.push_str(" ")?;
+        text.push_str(element.as_str())?;
+    }
+    text.push_str("\n")?;
+    Ok(text)
+}
+
+/// The line for a file whose text or statements are at fault.
+pub(crate) fn refused_file(alloc: Global, name: &str) -> Result<String, AllocError>
+    ensures { IfOk result (λ t. string_bytes t ≡ file_line name.now) }
+{
+    format!(in alloc; "refused file {name}\n")
+}
+
+/// The line for a file that was not read.
+pub(crate) fn fault_read(alloc: Global, name: &str) -> Result<String, AllocError>
+    ensures { IfOk result (λ t. string_bytes t ≡ read_line name.now) }
+{
+    format!(in alloc; "fault read {name}\n")
+}
