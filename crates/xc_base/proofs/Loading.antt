@@ -1,5 +1,5 @@
 -- What a load from memory gives.
-use Rattle.std.proofs.Common.{◌≡◌, ℕ, List, take, Option, Some, None, Result, Ok, Err, IfOk, refl, ap, sym, ◌∙◌}
+use Rattle.std.proofs.Common.{◌≡◌, ℕ, List, take, Option, Some, Result, Ok, Err, IfOk, ap, sym, ◌∙◌}
 use Rattle.std.specs.Option.{option_map}
 
 -- a front of what was found, where what was read is that front

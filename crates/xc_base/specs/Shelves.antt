@@ -1,5 +1,5 @@
 -- What is known of a shelf of files, and what a load does to it.
-use Rattle.std.specs.Prelude.{◌≡◌, ℕ, min, false, is_none, ◌+◌, ◌-◌, ◌^◌, Bool, true, ◌||◌, ◌==◌, nat_lt, find, List, [], ◌∷◌, ◌++◌, take, length, Option, Some, None, option_map, Result, Ok, Err, MatchOption}
+use Rattle.std.specs.Prelude.{◌≡◌, ℕ, min, false, is_none, ◌+◌, Bool, true, ◌||◌, ◌==◌, nat_lt, find, List, [], ◌∷◌, ◌++◌, take, length, Option, Some, None, option_map, Result, Ok, Err, MatchOption}
 use Rattle.std.specs.List.{list_any}
 use Rattle.std.specs.Str.{bytes_eq}
 use Rattle.xc_base.specs.declared.shelf.File.{File}

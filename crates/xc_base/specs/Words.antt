@@ -1,5 +1,5 @@
 -- Which bytes make words, and which words are names.
-use Rattle.std.specs.Prelude.{ℕ, Bool, true, ◌&&◌, ◌||◌, not, ◌==◌, nat_le, List, [], ◌∷◌, length, codes}
+use Rattle.std.specs.Prelude.{ℕ, Bool, ◌&&◌, ◌||◌, not, ◌==◌, nat_le, List, length}
 use Rattle.std.specs.List.{list_all, list_any}
 
 -- whether b is from low to high

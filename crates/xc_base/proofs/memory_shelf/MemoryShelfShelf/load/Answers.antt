@@ -1,7 +1,5 @@
-use Rattle.std.proofs.Common.{◌≡◌, ◌+◌, List, Some, ap, sym, ◌∙◌}
+use Rattle.std.proofs.Common.{List, ap, sym, ◌∙◌}
 use Rattle.std.specs.Option.{option_map}
-use Rattle.std.specs.Prelude.{find}
-use Rattle.std.specs.Str.{bytes_eq}
 use Rattle.xc_base.specs.Shelves.{Kept, held}
 use Rattle.xc_base.specs.declared.shelf.File.{File}
 use Rattle.xc_base.proofs.Loading.{loads_front}
