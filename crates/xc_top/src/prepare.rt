@@ -77,8 +77,8 @@ fn judge_lattice(alloc: Global, name: &str, bytes: &[u8]) -> Result<Answer, Halt
     }
 }
 
-#[tactic(auto, using(crate::proofs::Preparing::prepared))]
 /// Answers a request: loads its files, and works on them.
+#[tactic(auto, using(crate::proofs::Preparing::prepared))]
 pub(crate) fn prepare<S: Shelf>(
     alloc: Global,
     request: &Request<'_>,

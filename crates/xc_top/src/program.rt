@@ -24,8 +24,8 @@ fn deliver<W: Sink>(out: &mut W, answer: &Answer) -> Result<Passed, Halt>
     }
 }
 
-#[tactic(auto, using(crate::proofs::Serving::halted, crate::proofs::Serving::delivered))]
 /// Reads what the words ask for, works on it, and writes the text.
+#[tactic(auto, using(crate::proofs::Serving::halted, crate::proofs::Serving::delivered))]
 fn serve<S: Shelf, W: Sink>(
     alloc: Global,
     words: &[String],

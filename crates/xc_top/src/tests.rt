@@ -1,0 +1,192 @@
+use super::*;
+use std::alloc::Global;
+use std::test::Fail;
+use xc_base::{MemoryShelf, MemorySink};
+
+const TWO: &str = "lattice two\nelements F T\nbelow F T\nnot F T\nnot T F\n";
+
+const CHAIN: &str =
+    "lattice chain\nelements F M T\nbelow F M\nbelow M T\nnot F T\nnot M M\nnot T F\n";
+
+const DIAMOND: &str =
+    "lattice diamond\nelements F N B T\nbelow F N\nbelow F B\nbelow N T\nbelow B T\n\
+    not F T\nnot N N\nnot B B\nnot T F\n";
+
+const M3: &str =
+    "lattice m3\nelements 0 a b c 1\nbelow 0 a\nbelow 0 b\nbelow 0 c\nbelow a 1\nbelow b 1\nbelow c 1\n\
+    not 0 1\nnot a a\nnot b b\nnot c c\nnot 1 0\n";
+
+/// What a call of `run` leaves.
+#[derive(Drop)]
+struct Ran {
+    status: Status,
+    out: MemorySink,
+    err: MemorySink,
+}
+
+/// Runs words over one file in memory, `x.lat`, with the shelf's and out's calls of these numbers failing.
+fn run_over(alloc: Global, words: &[&str], text: &str, load: u64, put: u64) -> Result<Ran, Fail> {
+    let mut all = Vec::new(alloc);
+    for word in words {
+        all.push(String::from_str(alloc, word)?)?;
+    }
+    let mut shelf = MemoryShelf::new(alloc);
+    shelf.add("x.lat", text.as_bytes())?;
+    shelf.fail(load)?;
+    let mut out = MemorySink::new(alloc, 16);
+    out.fail(put)?;
+    let mut err = MemorySink::new(alloc, 1000);
+    let status = run(alloc, &all, &mut shelf, &mut out, &mut err);
+    Ok(Ran { status, out, err })
+}
+
+#[test]
+fn lattice_files(rt: HostRuntime) -> Result<(), Fail> {
+    for (text, status, out, err) in [
+        (
+            TWO,
+            Status::Done,
+            "lattice two elements 2 height 1 bottom F top T\n",
+            "",
+        ),
+        (
+            CHAIN,
+            Status::Done,
+            "lattice chain elements 3 height 2 bottom F top T\n",
+            "",
+        ),
+        (
+            DIAMOND,
+            Status::Done,
+            "lattice diamond elements 4 height 2 bottom F top T\n",
+            "",
+        ),
+        (M3, Status::No, "broken distributive a b c\n", ""),
+        (
+            "lattice two\nelements F T\nbelow F T\nnot F T\nnot T F\nbelow T F\n",
+            Status::No,
+            "broken antisymmetry F T\n",
+            "",
+        ),
+        (
+            "lattice vee\nelements a b t\nbelow a t\nbelow b t\nnot a a\nnot b b\nnot t t\n",
+            Status::No,
+            "broken meet a b\n",
+            "",
+        ),
+        (
+            "lattice wedge\nelements f a b\nbelow f a\nbelow f b\nnot a a\nnot b b\nnot f f\n",
+            Status::No,
+            "broken join a b\n",
+            "",
+        ),
+        (
+            "lattice chain\nelements F M T\nbelow F M\nbelow M T\nnot F T\nnot M T\nnot T F\n",
+            Status::No,
+            "broken involution M\n",
+            "",
+        ),
+        (
+            "lattice two\nelements F T\nbelow F T\nnot F F\nnot T T\n",
+            Status::No,
+            "broken antitone F T\n",
+            "",
+        ),
+        (
+            "# CR LF, tabs, comments, blank lines, no last line end\r\nlattice two # two\r\n\r\n\telements F\tT\r\n\
+             below F T\r\n   \r\nnot F T\r\nnot T F",
+            Status::Done,
+            "lattice two elements 2 height 1 bottom F top T\n",
+            "",
+        ),
+        ("", Status::Refused, "", "refused file x.lat\n"),
+        (
+            "lattice two\nelements F T\nbelow F T\nnot F T\n",
+            Status::Refused,
+            "",
+            "refused file x.lat\n",
+        ),
+        (
+            "lattice t\u{e9}\n",
+            Status::Refused,
+            "",
+            "refused file x.lat\n",
+        ),
+    ] {
+        let ran = run_over(rt.alloc(), &["lattice", "x.lat"], text, 99, 99)?;
+        assert_eq!(rt; ran.status, status, "{text}");
+        assert_eq!(rt; ran.out.bytes(), out.as_bytes(), "{text}");
+        assert_eq!(rt; ran.err.bytes(), err.as_bytes(), "{text}");
+    }
+    Ok(())
+}
+
+#[test]
+fn words_and_faults(rt: HostRuntime) -> Result<(), Fail> {
+    let asked = ["lattice", "x.lat"];
+    for (words, load, put, status, out, err) in [
+        (
+            asked.as_slice(),
+            1,
+            99,
+            Status::ReadFault,
+            "",
+            "fault read x.lat\n",
+        ),
+        (
+            asked.as_slice(),
+            99,
+            1,
+            Status::WriteFault,
+            "",
+            "fault write\n",
+        ),
+        (
+            asked.as_slice(),
+            99,
+            2,
+            Status::WriteFault,
+            "lattice two elem",
+            "fault write\n",
+        ),
+        (
+            ["lattice", "no.lat"].as_slice(),
+            99,
+            99,
+            Status::ReadFault,
+            "",
+            "fault read no.lat\n",
+        ),
+        (
+            ["lattice"].as_slice(),
+            99,
+            99,
+            Status::Words,
+            "",
+            "refused words\n",
+        ),
+        (
+            ["lattices", "x.lat"].as_slice(),
+            99,
+            99,
+            Status::Words,
+            "",
+            "refused words\n",
+        ),
+        (
+            ["lattice", "x.lat", "x.lat"].as_slice(),
+            99,
+            99,
+            Status::Words,
+            "",
+            "refused words\n",
+        ),
+        ([].as_slice(), 99, 99, Status::Words, "", "refused words\n"),
+    ] {
+        let ran = run_over(rt.alloc(), words, TWO, load, put)?;
+        assert_eq!(rt; ran.status, status, "{words:?}");
+        assert_eq!(rt; ran.out.bytes(), out.as_bytes(), "{words:?}");
+        assert_eq!(rt; ran.err.bytes(), err.as_bytes(), "{words:?}");
+    }
+    Ok(())
+}
