@@ -191,7 +191,7 @@ module _ (ss : List Statement) (d : IsDraft ss) (whole : missing_part ss ≡ Non
     subst (λ (y : ℕ). (y < length d.names) × SaysNegation ss d.names a y) (sym e)
     (place_negated (name_at d.names a) (negated_found ss (name_at d.names a) (each_negated a within)))
 
-  gathered_says : (negations : List ℕ) (table : List (List Bool)) → negations ≡ negations_of d.names ss → IsSpannedBy (length d.names) (IsListed (pairs_of d.names ss)) table
+  pub gathered_says : (negations : List ℕ) (table : List (List Bool)) → negations ≡ negations_of d.names ss → IsSpannedBy (length d.names) (IsListed (pairs_of d.names ss)) table
     → Says ss (record { name = d.name; names = d.names; algebra = record { order = table; negations = negations } })
   gathered_says negations table e h =
     record {
