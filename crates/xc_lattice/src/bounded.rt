@@ -14,10 +14,11 @@ use xc_order::Order;
 #[derive(Debug, Drop)]
 pub(crate) struct Bounded<'a> {
     order: &'a Order,
+    n: u8,
     negations: &'a [u8],
     meets: Vec<[Option<u8>; 64]>,
     joins: Vec<[Option<u8>; 64]>,
-    ghost is_order: { IsOrder (length order.now) order.now },
+    ghost is_order: { IsOrder n order.now },
     ghost one_each: { length negations.now ≡ length order.now },
     ghost in_range: { (a : ℕ) → a < length order.now → slice_index negations.now a < length order.now },
     ghost meets_are: { HoldsMeets order.now meets.items },
@@ -41,21 +42,22 @@ impl<'a> Bounded<'a> {
         ensures order { IfOk result (λ l. l.order.now ≡ order.now) }
         ensures negations { IfOk result (λ l. l.negations.now ≡ negations.now) }
     {
-        let _size = order.size();
         let meets = meets_of(alloc, order)?;
         let joins = joins_of(alloc, order)?;
         Ok(Bounded {
             order,
+            n: order.size(),
             negations,
             meets,
             joins,
         })
     }
 
+    /// How many elements there are.
     pub(crate) fn size(&self) -> u8
         ensures { result ≡ size (lattice_of self.now) }
     {
-        self.order.size()
+        self.n
     }
 
     fn meet(&self, a: u8, b: u8) -> u8

@@ -80,7 +80,7 @@ impl<'a> Bounded<'a> {
     fn first_one(&self) -> Option<Tuple>
         ensures { option_map elements_of result ≡ find (breaks (lattice_of self.now) Law.Involution) (tuples (size (lattice_of self.now)) 1) }
     {
-        let a = self.turned()?;
+        let a = self.first_unrestored()?;
         Some(Tuple::One(a))
     }
 
@@ -135,7 +135,7 @@ impl<'a> Bounded<'a> {
         (0..self.size()).find(|c| self.breaks_three(a, b, *c))
     }
 
-    fn turned(&self) -> Option<u8>
+    fn first_unrestored(&self) -> Option<u8>
         ensures { result
             ≡ find (λ a. breaks (lattice_of self.now) Law.Involution (a ∷ [])) (range_with_len 0 (size (lattice_of self.now))) }
     {

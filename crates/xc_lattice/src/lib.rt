@@ -13,8 +13,6 @@ mod law;
 mod reader;
 mod rows;
 mod statement;
-#[cfg(test)]
-mod tests;
 mod tuple;
 mod verdict;
 
@@ -25,3 +23,8 @@ pub use law::Law;
 pub use reader::read;
 pub use statement::Statement;
 pub use verdict::{LatticeFiles, files_have_one_verdict};
+
+#[cfg(test)]
+mod breaks_tests;
+#[cfg(test)]
+mod tests;
