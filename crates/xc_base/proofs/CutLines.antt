@@ -1,11 +1,9 @@
 -- How a text splits at its first line feed.
-use Rattle.std.proofs.Common.{◌≡◌, ℕ, suc, ◌+◌, ◌-◌, ◌<◌, ◌≤◌, Bool, true, false, cond, not, eqb, List, [], ◌∷◌, ◌++◌, length, take, drop, get_or, refl, ap, sym, ◌∙◌, ◌⊎◌, inl, inr, arith, rules}
+use Rattle.std.proofs.Common.{◌≡◌, ℕ, suc, ◌+◌, ◌-◌, ◌<◌, ◌≤◌, Bool, true, false, cond, not, eqb, List, [], ◌∷◌, ◌++◌, length, take, drop, refl, ap, sym, ◌∙◌, inl, inr, arith}
 use Rattle.std.specs.Prelude.{Option, Some, None, nat_lt}
-use Rattle.std.specs.List.{position_or_len, prefix_len, list_any}
-use Rattle.std.proofs.lemmas.Grind.{common_steps}
+use Rattle.std.specs.List.{position_or_len, list_any}
 use Rattle.std.proofs.lemmas.Bool.{cases_Bool, cond-false, le-ltb}
 use Rattle.std.proofs.lemmas.List.{drop-drop, drop-take, drop_all, take_rest, append_assoc, append-nil, length-drop, length-take-le}
-use Rattle.std.proofs.lemmas.List.Folds.{length-prefix_len}
 use Rattle.std.proofs.lemmas.List.Sums.{prefix_len-le-length}
 use Rattle.xc_base.specs.Text.{lines_of, onto_first, tokens_from, with_line, rows_from, first_fault_from, is_allowed, text_fault, IsTextFault}
 use Rattle.xc_base.specs.Cutting.{IsFaultOf}
@@ -13,10 +11,6 @@ use Rattle.xc_base.specs.declared.fault.TextFault.{TextFault}
 use Rattle.xc_base.specs.declared.fault.TextFault.TheVariants.{LongFile, BadByte, LongLine, Memory}
 use Rattle.xc_base.specs.declared.lines.Token.{Token}
 use Rattle.xc_base.specs.declared.lines.Line.{Line}
-
--- the size of a longest front that passes
-pub front_size : {X : Type 0} (p : X → Bool) (xs : List X) → length (take (prefix_len p xs) xs) ≡ prefix_len p xs
-front_size p xs = length-prefix_len p xs
 
 -- the place of the first line feed, or the length
 abbrev pub line_size : List ℕ → ℕ
@@ -144,3 +138,6 @@ fault_of_text bytes limit number place LongFile small within i h = fault_of_line
 fault_of_text bytes limit number place (BadByte l) small within i h = fault_of_lines limit bytes _ small (sym i ∙ faulty_at bytes number place _ within h)
 fault_of_text bytes limit number place (LongLine l) small within i h = fault_of_lines limit bytes _ small (sym i ∙ faulty_at bytes number place _ within h)
 fault_of_text bytes limit number place Memory small within i h = tt
+
+-- what a loop over the lines goes by
+pub ruleset line_steps = (rows_at, rows_at_end, faultless_at, no_fault_at_end, fault_of_text)

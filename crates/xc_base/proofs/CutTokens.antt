@@ -1,14 +1,13 @@
 -- How a line splits at its tokens.
-use Rattle.std.proofs.Common.{◌≡◌, ℕ, suc, ◌+◌, ◌-◌, ◌<◌, ◌≤◌, Bool, true, false, cond, not, eqb, leb, ◌&&◌, ◌||◌, List, [], ◌∷◌, ◌++◌, length, take, drop, get_or, refl, ap, sym, ◌∙◌, ◌⊎◌, inl, inr, arith, rules}
+use Rattle.std.proofs.Common.{◌≡◌, ℕ, suc, ◌+◌, ◌-◌, ◌<◌, ◌≤◌, Bool, true, false, eqb, ◌&&◌, List, [], ◌∷◌, length, take, drop, get_or, refl, ap, sym, ◌∙◌, inl, inr, arith}
 use Rattle.std.specs.List.{prefix_len}
 use Rattle.std.proofs.lemmas.Grind.{common_steps}
 use Rattle.std.proofs.lemmas.Bool.{cases_Bool, or_cases, and_parts, eqb-true, ne_eqb}
-use Rattle.std.proofs.lemmas.List.{drop-drop, drop_more, drop_all, take_rest, length-drop, get_or-drop, append_assoc}
-use Rattle.std.proofs.lemmas.List.Sums.{prefix_len-le-length, prefix_len_stops}
+use Rattle.std.proofs.lemmas.List.{drop-drop, drop_more, drop_all, take_rest, length-drop, get_or-drop}
+use Rattle.std.proofs.lemmas.List.Sums.{prefix_len_stops}
 use Rattle.xc_base.specs.Text.{tokens_from, is_blank, joins, joins_next, with_byte}
 use Rattle.xc_base.specs.Words.{is_word_byte}
 use Rattle.xc_base.specs.Cutting.{token_size}
-use Rattle.xc_base.specs.declared.lines.Token.{Token}
 
 -- what two bytes have that join: they are of one kind, and the second is none of the low bytes
 abbrev AreAlike : ℕ → ℕ → Type 0
@@ -29,11 +28,15 @@ symbols_alike b c m n wm wn above h =
 
 joined_alike : (b c : ℕ) → joins b c ≡ true → AreAlike b c
 joined_alike b c h =
-    elim (or_cases _ _ h) [ inl h ↦
-      elim (or_cases _ _ h) [ inl h ↦
-        elim (or_cases _ _ h) [ inl h ↦ words_alike b c h | inr h ↦ symbols_alike b c 58 61 refl refl (omega arith) h ]
-      | inr h ↦ symbols_alike b c 45 62 refl refl (omega arith) h ]
-    | inr h ↦ symbols_alike b c 33 61 refl refl (omega arith) h ]
+    elim (or_cases _ _ h) [
+      | inl h ↦
+          elim (or_cases _ _ h) [
+            | inl h ↦
+                elim (or_cases _ _ h) [ inl h ↦ words_alike b c h | inr h ↦ symbols_alike b c 58 61 refl refl (omega arith) h ]
+            | inr h ↦ symbols_alike b c 45 62 refl refl (omega arith) h
+          ]
+      | inr h ↦ symbols_alike b c 33 61 refl refl (omega arith) h
+    ]
 
 above_not_blank : (c : ℕ) → 45 < c → is_blank c ≡ false
 above_not_blank c h = grind (arith, common_steps)
@@ -79,25 +82,29 @@ first_token_more place b m n w xs c h j t v e =
 first_token : (place b : ℕ) (xs : List ℕ) → eqb b 35 ≡ false → is_blank b ≡ false → tokens_from place (b ∷ xs) ≡ record { start = place; end = place + token_size (b ∷ xs); word = is_word_byte b } ∷ tokens_from (place + token_size (b ∷ xs)) (drop (token_size (b ∷ xs)) (b ∷ xs))
 first_token place b [] c h = first_token_ends place b _ [] c h refl (token_size_ends b [] refl)
 first_token place b (d ∷ xs) c h =
-    elim (cases_Bool (joins b d)) [ inl j ↦
-      let a = joined_alike b d j in
-      first_token_more place b _ _ _ (d ∷ xs) c h j (first_token (place + 1) d xs (above_not_comment d a.1) (above_not_blank d a.1)) a.0 (token_size_more b (d ∷ xs) j)
-    | inr j ↦ first_token_ends place b _ (d ∷ xs) c h j (token_size_ends b (d ∷ xs) j) ]
+    elim (cases_Bool (joins b d)) [
+      | inl j ↦
+          let a = joined_alike b d j in
+          first_token_more place b _ _ _ (d ∷ xs) c h j (first_token (place + 1) d xs (above_not_comment d a.1) (above_not_blank d a.1)) a.0 (token_size_more b (d ∷ xs) j)
+      | inr j ↦ first_token_ends place b _ (d ∷ xs) c h j (token_size_ends b (d ∷ xs) j)
+    ]
 
 -- the tokens behind the first blanks
 tokens_behind : (place n : ℕ) (xs : List ℕ) → n ≡ prefix_len is_blank xs → tokens_from place xs ≡ tokens_from (place + n) (drop n xs)
 unfolding tokens_from
 tokens_behind place n [] e = rw e refl
 tokens_behind place n (b ∷ xs) e =
-    elim (cases_Bool (is_blank b)) [ inl h ↦
-      let m = prefix_len is_blank xs in
-      let f : n ≡ suc m = e ∙ simp h (omega arith) in
-      let g : place + n ≡ place + 1 + m = omega arith in
-      tokens_from_blank place b xs h ∙ (tokens_behind (place + 1) m xs refl ∙ rw (g, f) refl)
-    | inr h ↦
-      let f : n ≡ 0 = e ∙ simp h in
-      let g : place + n ≡ place = omega arith in
-      rw (g, f) refl ]
+    elim (cases_Bool (is_blank b)) [
+      | inl h ↦
+          let m = prefix_len is_blank xs in
+          let f : n ≡ suc m = e ∙ simp h (omega arith) in
+          let g : place + n ≡ place + 1 + m = omega arith in
+          tokens_from_blank place b xs h ∙ (tokens_behind (place + 1) m xs refl ∙ rw (g, f) refl)
+      | inr h ↦
+          let f : n ≡ 0 = e ∙ simp h in
+          let g : place + n ≡ place = omega arith in
+          rw (g, f) refl
+    ]
 
 -- how many blanks stand from a place of a text on
 abbrev pub blanks_at : List ℕ → ℕ → ℕ
@@ -151,3 +158,8 @@ token_size_here text k n e h j =
     let d : drop k text ≡ get_or text k 0 ∷ drop n text = drop_more text k 0 (omega arith) ∙ ap (λ i. get_or text k 0 ∷ drop i text) (sym e) in
     let f : joins_next (get_or text k 0) (drop n text) ≡ false = ap (joins_next (get_or text k 0)) (drop_more text n 0 h) ∙ j in
     ap token_size d ∙ token_size_ends _ _ f
+
+-- what the next token, and the end of a token, are found by
+pub ruleset token_steps = (tokens_behind_blanks, no_blank_behind, no_tokens_at_end, no_tokens_at_comment, token_at)
+
+pub ruleset size_steps = (token_size_on, token_size_last, token_size_here)

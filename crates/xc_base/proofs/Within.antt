@@ -1,5 +1,5 @@
 -- The tokens of a text are parts of it.
-use Rattle.std.proofs.Common.{◌≡◌, ℕ, suc, ◌+◌, ◌-◌, ◌<◌, ◌≤◌, Bool, true, false, cond, eqb, ltb, leb, ◌&&◌, List, [], ◌∷◌, ◌++◌, length, refl, ap, sym, ◌∙◌, inl, inr, arith, rules}
+use Rattle.std.proofs.Common.{◌≡◌, ℕ, ◌+◌, ◌<◌, ◌≤◌, Bool, true, false, eqb, leb, ◌&&◌, List, [], ◌∷◌, length, refl, inl, inr, arith}
 use Rattle.std.specs.List.{list_all}
 use Rattle.std.proofs.lemmas.Bool.{cases_Bool, and_parts, and_from, leb-true, le-leb, lt-ltb, ltb-true}
 use Rattle.xc_base.specs.Text.{lines_of, onto_first, is_blank, joins_next, with_byte, tokens_from, with_line, rows_from, rows_of, is_part, are_within}
@@ -45,9 +45,13 @@ unfolding tokens_from
 parts_of_line place size [] h = refl
 parts_of_line place size (b ∷ line) h =
     let rest = parts_of_line (place + 1) size line (omega arith) in
-    elim (cases_Bool (eqb b 35)) [ inl c ↦ simp c
-    | inr c ↦ elim (cases_Bool (is_blank b)) [ inl k ↦ simp (c, k) (parts_from_below place (place + 1) size _ (omega arith) rest)
-      | inr k ↦ simp (c, k) (parts_with_byte place size b (joins_next b line) _ (omega arith) rest) ] ]
+    elim (cases_Bool (eqb b 35)) [
+      | inl c ↦ simp c
+      | inr c ↦ elim (cases_Bool (is_blank b)) [
+        | inl k ↦ simp (c, k) (parts_from_below place (place + 1) size _ (omega arith) rest)
+        | inr k ↦ simp (c, k) (parts_with_byte place size b (joins_next b line) _ (omega arith) rest)
+      ]
+    ]
 
 parts_alone : (low size : ℕ) (tokens : List Token) → are_parts_from low size tokens ≡ true → list_all (is_part size) tokens ≡ true
 parts_alone low size [] a = refl

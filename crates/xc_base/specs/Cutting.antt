@@ -2,7 +2,7 @@
 use Rattle.std.specs.Prelude.{◌≡◌, ℕ, ◌+◌, if◌then◌else◌, List, [], ◌∷◌, Option, Some}
 use Rattle.xc_base.specs.Text.{joins_next}
 use Rattle.xc_base.specs.declared.fault.TextFault.{TextFault}
-use Rattle.xc_base.specs.declared.fault.TextFault.TheVariants.{LongFile, BadByte, LongLine, Memory}
+use Rattle.xc_base.specs.declared.fault.TextFault.TheVariants.{Memory}
 
 -- how many bytes from the first on belong to one token
 unfoldable pub token_size : List ℕ → ℕ

@@ -1,11 +1,12 @@
 -- The rows of a text, as the readers of statements see them.
-use Rattle.std.specs.Prelude.{ℕ, List, [], map}
+use Rattle.std.specs.Prelude.{ℕ, Bool, List, [], map}
 use Rattle.std.specs.List.{slice_index_or}
 use Rattle.xc_base.specs.Formats.{Row}
 use Rattle.xc_base.specs.Text.{rows_of, token_text}
 use Rattle.xc_base.specs.declared.lines.Lexeme.{Lexeme}
 use Rattle.xc_base.specs.declared.lines.Line.{Line}
 use Rattle.xc_base.specs.declared.lines.Lines.{Lines}
+use Rattle.xc_base.specs.declared.lines.Token.{Token}
 
 -- the texts of lexemes
 abbrev pub texts : List Lexeme → List (List ℕ)
@@ -26,3 +27,7 @@ text_rows bytes = map (row_of bytes) (rows_of bytes)
 -- the row at a place
 abbrev pub row_at : List Row → ℕ → Row
 row_at rows place = slice_index_or rows place (record { number = 0; tokens = [] })
+
+-- which tokens of the row at a place are words
+abbrev pub words_at : Lines → ℕ → List Bool
+words_at lines place = map (λ (t : Token). t.word) (slice_index_or lines.rows place (record { number = 0; tokens = [] })).tokens

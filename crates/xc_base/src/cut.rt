@@ -21,20 +21,10 @@ const LONGEST_LINE: usize = 4096;
 
 /// Cuts a text that may have so many bytes into lines.
 ///
-/// The fault is that of the first line that has one; a text over the limit is not looked at.
-#[tactic(auto, using(
-    crate::proofs::CutLines::rows_at,
-    crate::proofs::CutLines::rows_at_end,
-    crate::proofs::CutLines::faultless_at,
-    crate::proofs::CutLines::no_fault_at_end,
-    crate::proofs::CutLines::fault_of_text,
-    crate::proofs::Within::rows_within
-))]
-pub fn cut_lines<'a>(
-    alloc: Global,
-    bytes: &'a [u8],
-    limit: usize,
-) -> Result<Lines<'a>, TextFault>
+/// The fault is that of the first line that has one; a text over the limit is not looked at, and for want of memory the
+/// fault is `Memory`.
+#[tactic(auto, using(crate::proofs::CutLines::line_steps, crate::proofs::Within::rows_within))]
+pub fn cut_lines<'a>(alloc: Global, bytes: &'a [u8], limit: usize) -> Result<Lines<'a>, TextFault>
     requires { limit < 2 ^ 32 }
     ensures source { IfOk result (λ l. l.source.now ≡ bytes.now) }
     ensures rows { IfOk result (λ l. l.rows ≡ rows_of bytes.now) }
@@ -61,7 +51,6 @@ pub fn cut_lines<'a>(
 }
 
 /// How many bytes stand before the first line feed, or at all.
-#[tactic(auto, using(crate::proofs::CutLines::front_size))]
 fn line_size(text: &[u8]) -> usize
     ensures within { result ≤ length text.now }
     ensures size { result ≡ position_or_len (λ b. b == 10) text.now }
@@ -129,13 +118,7 @@ fn tokens_of(alloc: Global, text: &[u8], place: usize) -> Result<List<Token>, Me
 }
 
 /// The first token of a line from a place on.
-#[tactic(auto, using(
-    crate::proofs::CutTokens::tokens_behind_blanks,
-    crate::proofs::CutTokens::no_blank_behind,
-    crate::proofs::CutTokens::no_tokens_at_end,
-    crate::proofs::CutTokens::no_tokens_at_comment,
-    crate::proofs::CutTokens::token_at
-))]
+#[tactic(auto, using(crate::proofs::CutTokens::token_steps))]
 fn next_token(text: &[u8], from: usize) -> Option<Token>
     requires { from ≤ length text.now }
     ensures within { IfSome result (λ t. (from < t.end) × (t.end ≤ length text.now)) }
@@ -156,7 +139,6 @@ fn next_token(text: &[u8], from: usize) -> Option<Token>
 }
 
 /// How many blanks a text begins with.
-#[tactic(auto, using(crate::proofs::CutLines::front_size))]
 fn blanks(text: &[u8]) -> usize
     ensures within { result ≤ length text.now }
     ensures size { result ≡ prefix_len is_blank text.now }
@@ -165,11 +147,7 @@ fn blanks(text: &[u8]) -> usize
 }
 
 /// Where the token that begins at a place ends.
-#[tactic(auto, using(
-    crate::proofs::CutTokens::token_size_on,
-    crate::proofs::CutTokens::token_size_last,
-    crate::proofs::CutTokens::token_size_here
-))]
+#[tactic(auto, using(crate::proofs::CutTokens::size_steps))]
 fn token_end(text: &[u8], start: usize) -> usize
     requires { start < length text.now }
     ensures within { (start < result) × (result ≤ length text.now) }

@@ -1,4 +1,4 @@
-ghost use Rattle.std.specs.Prelude.{◌≡◌, [], ◌∷◌, ◌++◌, ◌<◌, length, OnOk, OnErr};
+ghost use Rattle.std.specs.Prelude.{◌≡◌, [], ◌∷◌, ◌++◌, ◌<◌, length, IfOk, OnOk, OnErr};
 ghost use Rattle.std.specs.List.{slice_index_or};
 
 use crate::memory::Memory;
@@ -65,6 +65,26 @@ impl<T> List<T> {
         ensures { result.now ≡ self.now }
     {
         self.items.as_slice()
+    }
+}
+
+impl<T: Copy> List<T> {
+    /// A list of these items.
+    pub fn of(alloc: Global, items: &[T]) -> Result<List<T>, Memory>
+        ensures { IfOk result (λ l. l ≡ items.now) }
+    {
+        Ok(List {
+            items: Vec::from_slice(alloc, items)?,
+        })
+    }
+
+    /// Appends items. A list for which there is no memory stays as it was.
+    pub fn extend(&mut self, items: &[T]) -> Result<(), Memory>
+        ensures ok { OnOk result (self.new ≡ self.old ++ items.now) }
+        ensures err { OnErr result (self.new ≡ self.old) }
+    {
+        self.items.extend_from_slice(items)?;
+        Ok(())
     }
 }
 

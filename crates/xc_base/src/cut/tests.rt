@@ -1,5 +1,7 @@
 //! What the cutting gives on texts whose rows are written out by hand.
 
+ghost use Rattle.std.specs.Prelude.{◌<◌, length};
+
 use super::cut_lines;
 use crate::fault::TextFault;
 use crate::lines::Lines;
@@ -17,12 +19,7 @@ fn shown(alloc: Global, text: &[u8]) -> Result<Vec<u8>, TextFault> {
     Ok(shown)
 }
 
-fn show_row(
-    alloc: Global,
-    lines: &Lines,
-    row: usize,
-    shown: &mut Vec<u8>,
-) -> Result<(), Memory>
+fn show_row(alloc: Global, lines: &Lines, row: usize, shown: &mut Vec<u8>) -> Result<(), Memory>
     requires { row < length lines.now.rows }
 {
     shown.push(b'0' + (lines.number(row) % 10) as u8)?;

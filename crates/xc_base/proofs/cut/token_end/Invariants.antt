@@ -6,7 +6,7 @@ abbrev pub invariant-loop-last : goal.invariant-loop-last
 invariant-loop-last l = record {
   behind : l.start ≤ l.last;
   within : l.last < length l.text;
-  size : l.last + token_size (drop l.last l.text) ≡ l.start + token_size (drop l.start l.text)
+  size : l.last + token_size (drop l.last l.text) ≡ l.start + token_size (drop l.start l.text);
 }
 
 abbrev pub decreases-loop-last : goal.decreases-loop-last

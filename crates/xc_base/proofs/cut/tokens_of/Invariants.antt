@@ -5,7 +5,7 @@ use Rattle.xc_base.proofs.cut.tokens_of.Given as goal
 abbrev pub invariant-loop-token : goal.invariant-loop-token
 invariant-loop-token l = record {
   within : l.at ≤ length l.text;
-  tokens : l.tokens ++ tokens_from l.at (drop l.at l.text) ≡ tokens_from l.place (drop l.place l.text)
+  tokens : l.tokens ++ tokens_from l.at (drop l.at l.text) ≡ tokens_from l.place (drop l.place l.text);
 }
 
 abbrev pub decreases-loop-token : goal.decreases-loop-token

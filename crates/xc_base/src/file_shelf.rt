@@ -1,0 +1,67 @@
+ghost use Rattle.std.specs.Prelude.{◌≡◌, ◌<◌, ◌≤◌, ◌^◌, ◌-◌, ◌+◌, IfOk, vec_len};
+ghost use Rattle.xc_base.specs.Shelves.{unseen};
+
+use crate::shelf::{LoadFault, Shelf};
+use std::alloc::Global;
+use std::fs;
+use std::io::Read;
+use std::rt::Files;
+
+/// The system's files.
+///
+/// It tells no files. Names go to the system as they stand. A file that can't be opened or read is a fault.
+#[derive(Drop)]
+pub struct FileShelf<'a, R: Files> {
+    rt: &'a R,
+    faults: u64,
+}
+
+/// The bytes of a reader up to its end, or the first `limit + 1` of them. Each turn takes at least one byte.
+fn read_bytes<F: Read>(alloc: Global, file: &mut F, limit: usize) -> Result<Vec<u8>, LoadFault>
+    requires { limit < 2 ^ 32 }
+    ensures { IfOk result (λ v. vec_len v ≤ limit + 1) }
+{
+    let mut bytes = Vec::new(alloc);
+    let mut chunk = [0u8; 4096];
+    while bytes.len() <= limit {
+        let room = (limit + 1 - bytes.len()).min(chunk.len());
+        let count = file.read(&mut chunk[..room]).map_err(|_| LoadFault::Failed)?;
+        if count == 0 {
+            break;
+        }
+        bytes.extend_from_slice(&chunk[..count]).map_err(|_| LoadFault::Memory)?;
+    }
+    Ok(bytes)
+}
+
+/// The bytes of a file of the system, up to its end or the first `limit + 1` of them.
+fn read_file<R: Files>(alloc: Global, rt: &R, name: &str, limit: usize) -> Result<Vec<u8>, LoadFault>
+    requires { limit < 2 ^ 32 }
+    ensures { IfOk result (λ v. vec_len v ≤ limit + 1) }
+{
+    let mut file = fs::open(rt, name).map_err(|_| LoadFault::Failed)?;
+    read_bytes(alloc, &mut file, limit)
+}
+
+impl<'a, R: Files> FileShelf<'a, R> {
+    /// The files of that system.
+    pub fn new(rt: &'a R) -> FileShelf<'a, R>
+        ensures { ⟦<FileShelf<'a, R> as Shelf>⟧.seen result ≡ unseen 0 }
+    {
+        FileShelf { rt, faults: 0 }
+    }
+}
+
+impl<'a, R: Files> Shelf for FileShelf<'a, R> {
+    ghost seen = { λ s. unseen s.faults };
+
+    ghost counted = { λ s. tt };
+
+    fn load(&mut self, alloc: Global, name: &str, limit: usize) -> Result<Vec<u8>, LoadFault> {
+        let loaded = read_file(alloc, self.rt, name, limit);
+        if let Err(LoadFault::Failed) = loaded {
+            self.faults = self.faults.saturating_add(1);
+        }
+        loaded
+    }
+}

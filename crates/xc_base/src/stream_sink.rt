@@ -1,0 +1,51 @@
+ghost use Rattle.std.specs.Prelude.{◌≡◌, ◌<◌, ◌≤◌, length, IfSome};
+ghost use Rattle.xc_base.specs.Sinks.{unseen};
+
+use crate::sink::{Sink, SinkFault};
+use std::io;
+
+/// A real writer.
+///
+/// It tells no bytes. A fault is an error of the write, an error of the flush that follows each write, or a write that
+/// takes no byte of a piece that has one. It never answers that there is no memory.
+#[derive(Drop)]
+pub struct StreamSink<X: io::Write + Drop> {
+    writer: X,
+    faults: u64,
+}
+
+/// Writes a front of the piece and flushes it.
+fn write_some<X: io::Write>(writer: &mut X, piece: &[u8]) -> Option<usize>
+    ensures within { IfSome result (λ k. k ≤ length piece.now) }
+    ensures some { IfSome result (λ k. 0 < length piece.now → 0 < k) }
+{
+    let count = writer.write(piece).ok()?;
+    writer.flush().ok()?;
+    if count == 0 && !piece.is_empty() {
+        return None;
+    }
+    Some(count)
+}
+
+impl<X: io::Write + Drop> StreamSink<X> {
+    /// A sink over that writer.
+    pub fn new(writer: X) -> StreamSink<X>
+        ensures { ⟦<StreamSink<X> as Sink>⟧.seen result ≡ unseen 0 }
+    {
+        StreamSink { writer, faults: 0 }
+    }
+}
+
+impl<X: io::Write + Drop> Sink for StreamSink<X> {
+    ghost seen = { λ s. unseen s.faults };
+
+    fn put(&mut self, piece: &[u8]) -> Result<usize, SinkFault> {
+        match write_some(&mut self.writer, piece) {
+            Some(count) => Ok(count),
+            None => {
+                self.faults = self.faults.saturating_add(1);
+                Err(SinkFault::Failed)
+            }
+        }
+    }
+}
