@@ -58,10 +58,10 @@ some_same e = cc
 module _ {S V : Type 0} (format : Format S V) (decide : List S → List (List ℕ) → Option S) where
   -- the fault that a due statement has, by the outcomes of the tests
   fault_some :
-    (before : List S) (row : Row) (s : S) → format.Due before row.tokens s
-    → (r u : Bool) (c : Option Excess) → format.repeated before s ≡ r → format.unknown before s ≡ u → format.count before s ≡ c
-    → (f : FileFault) → cond r (Some (Repeated row.number)) (cond u (Some (Unknown row.number)) (excess_fault row.number c)) ≡ Some f
-    → HasFault format before row f
+      (before : List S) (row : Row) (s : S) → format.Due before row.tokens s
+      → (r u : Bool) (c : Option Excess) → format.repeated before s ≡ r → format.unknown before s ≡ u → format.count before s ≡ c
+      → (f : FileFault) → cond r (Some (Repeated row.number)) (cond u (Some (Unknown row.number)) (excess_fault row.number c)) ≡ Some f
+      → HasFault format before row f
   fault_some before row s due true u c er eu ec f e = subst (HasFault format before row) (some_same e) (repeated s due er)
   fault_some before row s due false true c er eu ec f e = subst (HasFault format before row) (some_same e) (unknown s due er eu)
   fault_some before row s due false false (Some x) er eu ec f e = subst (HasFault format before row) (some_same e) (count s x due er eu ec)
@@ -70,13 +70,13 @@ module _ {S V : Type 0} (format : Format S V) (decide : List S → List (List �
   due_is_faultless : (before : List S) (row : Row) (s : S) → format.Due before row.tokens s → statement_fault format before row.number s ≡ None → IsFaultless format before row.tokens s
   unfolding statement_fault
   due_is_faultless before row s due e =
-    let parts = fault_none (format.repeated before s) (format.unknown before s) (format.count before s) row.number e in
-    record { due = due; first = parts.0; known = parts.1; few = parts.2 }
+      let parts = fault_none (format.repeated before s) (format.unknown before s) (format.count before s) row.number e in
+      record { due = due; first = parts.0; known = parts.1; few = parts.2 }
 
   due_has_fault : (before : List S) (row : Row) (s : S) (f : FileFault) → format.Due before row.tokens s → statement_fault format before row.number s ≡ Some f → HasFault format before row f
   unfolding statement_fault
   due_has_fault before row s f due e =
-    fault_some before row s due (format.repeated before s) (format.unknown before s) (format.count before s) refl refl refl f e
+      fault_some before row s due (format.repeated before s) (format.unknown before s) (format.count before s) refl refl refl f e
 
 ok_same : {X Y : Type 0} {x y : X} → ◌≡◌ {A = Result X Y} (Ok x) (Ok y) → x ≡ y
 ok_same e = cc
@@ -103,8 +103,8 @@ module _ {S V : Type 0} (format : Format S V) (decide : List S → List (List �
 
   judged_err : (before : List S) (row : Row) (f : FileFault) (o : Option S) → decide before row.tokens ≡ o → judged format before row.number o ≡ Err f → HasFault format before row f
   judged_err before row f None e h =
-    subst (HasFault format before row) (err_same h)
-    (no_statement (λ s due. none_is_not s (sym e ∙ decides.complete before row.tokens s due)))
+      subst (HasFault format before row) (err_same h)
+      (no_statement (λ s due. none_is_not s (sym e ∙ decides.complete before row.tokens s due)))
   judged_err before row f (Some s) e h = unless_err before row s f (statement_fault format before row.number s) (decides.sound before row.tokens s e) refl h
 
   line_sound : (before : List S) (row : Row) (s : S) → line_of format decide before row ≡ Ok s → IsFaultless format before row.tokens s
@@ -117,8 +117,8 @@ module _ {S V : Type 0} (format : Format S V) (decide : List S → List (List �
 
   line_complete : (before : List S) (row : Row) (s : S) → IsFaultless format before row.tokens s → line_of format decide before row ≡ Ok s
   line_complete before row s h =
-    line_of-ok format decide before row s (decides.complete before row.tokens s h.due)
-    (fault_is_none format decide before row.number s h.first h.known h.few)
+      line_of-ok format decide before row s (decides.complete before row.tokens s h.due)
+      (fault_is_none format decide before row.number s h.first h.known h.few)
 
   none_decided : (before : List S) (tokens : List (List ℕ)) (o : Option S) → decide before tokens ≡ o → ((s : S) → format.Due before tokens s → ⊥) → decide before tokens ≡ None
   none_decided before tokens None e not_due = e
@@ -126,16 +126,16 @@ module _ {S V : Type 0} (format : Format S V) (decide : List S → List (List �
 
   line_fault_complete : {f : FileFault} (before : List S) (row : Row) → HasFault format before row f → line_of format decide before row ≡ Err f
   line_fault_complete before row (no_statement not_due) =
-    line_of-none format decide before row (none_decided before row.tokens (decide before row.tokens) refl not_due)
+      line_of-none format decide before row (none_decided before row.tokens (decide before row.tokens) refl not_due)
   line_fault_complete before row (repeated s due r) =
-    line_of-err format decide before row s (Repeated row.number) (decides.complete before row.tokens s due)
-    (fault_is_repeated format decide before row.number s r)
+      line_of-err format decide before row s (Repeated row.number) (decides.complete before row.tokens s due)
+      (fault_is_repeated format decide before row.number s r)
   line_fault_complete before row (unknown s due r u) =
-    line_of-err format decide before row s (Unknown row.number) (decides.complete before row.tokens s due)
-    (fault_is_unknown format decide before row.number s r u)
+      line_of-err format decide before row s (Unknown row.number) (decides.complete before row.tokens s due)
+      (fault_is_unknown format decide before row.number s r u)
   line_fault_complete before row (count s e due r u c) =
-    line_of-err format decide before row s (Count row.number e.what e.found) (decides.complete before row.tokens s due)
-    (fault_is_count format decide before row.number s e r u c)
+      line_of-err format decide before row s (Count row.number e.what e.found) (decides.complete before row.tokens s due)
+      (fault_is_count format decide before row.number s e r u c)
 
 -- What a list of rows is after the statements before it: the statements of all rows, and what they are a front of.
 pub record Read {S V : Type 0} (format : Format S V) (before : List S) (rows : List Row) (all : List S) : Type 0 where
@@ -174,24 +174,28 @@ module _ {S V : Type 0} (format : Format S V) (decide : List S → List (List �
 module _ {S V : Type 0} (format : Format S V) (decide : List S → List (List ℕ) → Option S) (decides : Decides format decide) where
   on_read : (before : List S) (row : Row) (rows : List Row) (s : S) (all : List S) → IsFaultless format before row.tokens s → Read format (before ++ s ∷ []) rows all → Read format before (row ∷ rows) all
   on_read before row rows s all first rest =
-    record { more = s ∷ rest.more; together = rest.together ∙ append_assoc before (s ∷ []) rest.more; statements = next before row rows s rest.more first rest.statements }
+      record { more = s ∷ rest.more; together = rest.together ∙ append_assoc before (s ∷ []) rest.more; statements = next before row rows s rest.more first rest.statements }
 
   on_stopped : (before : List S) (row : Row) (rows : List Row) (s : S) (f : FileFault) → IsFaultless format before row.tokens s → Stopped format (before ++ s ∷ []) rows f → Stopped format before (row ∷ rows) f
   on_stopped before row rows s f first rest =
-    record {
-      front = row ∷ rest.front; row = rest.row; back = rest.back; more = s ∷ rest.more;
-      parts = ap (λ rs. row ∷ rs) rest.parts;
-      statements = next before row rest.front s rest.more first rest.statements;
-      stops = subst (λ b. HasFault format b rest.row f) (append_assoc before (s ∷ []) rest.more) rest.stops }
+      record {
+        front = row ∷ rest.front;
+        row = rest.row;
+        back = rest.back;
+        more = s ∷ rest.more;
+        parts = ap (λ rs. row ∷ rs) rest.parts;
+        statements = next before row rest.front s rest.more first rest.statements;
+        stops = subst (λ b. HasFault format b rest.row f) (append_assoc before (s ∷ []) rest.more) rest.stops;
+      }
 
   stops_here : (before : List S) (row : Row) (rows : List Row) (f : FileFault) → HasFault format before row f → Stopped format before (row ∷ rows) f
   stops_here before row rows f h =
-    record { front = []; row = row; back = rows; more = []; parts = refl; statements = none before; stops = subst (λ b. HasFault format b row f) (append_nil_sym before) h }
+      record { front = []; row = row; back = rows; more = []; parts = refl; statements = none before; stops = subst (λ b. HasFault format b row f) (append_nil_sym before) h }
 
   -- what the function gives is read
   read_after : (before : List S) (row : Row) (rows : List Row) (all : List S) (o : Result S FileFault)
-    → ((s : S) → statements_of format decide (before ++ s ∷ []) rows ≡ Ok all → Read format (before ++ s ∷ []) rows all)
-    → line_of format decide before row ≡ o → on_ok o (λ s. statements_of format decide (before ++ s ∷ []) rows) ≡ Ok all → Read format before (row ∷ rows) all
+      → ((s : S) → statements_of format decide (before ++ s ∷ []) rows ≡ Ok all → Read format (before ++ s ∷ []) rows all)
+      → line_of format decide before row ≡ o → on_ok o (λ s. statements_of format decide (before ++ s ∷ []) rows) ≡ Ok all → Read format before (row ∷ rows) all
   read_after before row rows all (Ok s) ih e h = on_read before row rows s all (line_sound format decide decides before row s e) (ih s h)
   read_after before row rows all (Err f) ih e h = absurd (ok_is_not all f (sym h))
 
@@ -199,50 +203,50 @@ module _ {S V : Type 0} (format : Format S V) (decide : List S → List (List �
   unfolding statements_of
   statements_sound before [] all h = record { more = []; together = sym (ok_same h) ∙ append_nil_sym before; statements = none before }
   statements_sound before (row ∷ rows) all h =
-    read_after before row rows all (line_of format decide before row) (λ s. statements_sound (before ++ s ∷ []) rows all) refl h
+      read_after before row rows all (line_of format decide before row) (λ s. statements_sound (before ++ s ∷ []) rows all) refl h
 
   stopped_after : (before : List S) (row : Row) (rows : List Row) (f : FileFault) (o : Result S FileFault)
-    → ((s : S) → statements_of format decide (before ++ s ∷ []) rows ≡ Err f → Stopped format (before ++ s ∷ []) rows f)
-    → line_of format decide before row ≡ o → on_ok o (λ s. statements_of format decide (before ++ s ∷ []) rows) ≡ Err f → Stopped format before (row ∷ rows) f
+      → ((s : S) → statements_of format decide (before ++ s ∷ []) rows ≡ Err f → Stopped format (before ++ s ∷ []) rows f)
+      → line_of format decide before row ≡ o → on_ok o (λ s. statements_of format decide (before ++ s ∷ []) rows) ≡ Err f → Stopped format before (row ∷ rows) f
   stopped_after before row rows f (Ok s) ih e h = on_stopped before row rows s f (line_sound format decide decides before row s e) (ih s h)
   stopped_after before row rows f (Err g) ih e h =
-    stops_here before row rows f (line_fault_sound format decide decides before row f (e ∙ ap Err (err_same h)))
+      stops_here before row rows f (line_fault_sound format decide decides before row f (e ∙ ap Err (err_same h)))
 
   pub statements_fault_sound : (before : List S) (rows : List Row) (f : FileFault) → statements_of format decide before rows ≡ Err f → Stopped format before rows f
   unfolding statements_of
   statements_fault_sound before [] f h = absurd (ok_is_not before f h)
   statements_fault_sound before (row ∷ rows) f h =
-    stopped_after before row rows f (line_of format decide before row) (λ s. statements_fault_sound (before ++ s ∷ []) rows f) refl h
+      stopped_after before row rows f (line_of format decide before row) (λ s. statements_fault_sound (before ++ s ∷ []) rows f) refl h
 
   -- and what is read, the function gives
   pub statements_complete : {before : List S} {front : List Row} {more : List S} (back : List Row) → AreStatements format before front more → statements_of format decide before (front ++ back) ≡ statements_of format decide (before ++ more) back
   statements_complete back (none before) = ap (λ b. statements_of format decide b back) (append_nil_sym before)
   statements_complete back (next before row rows s more first rest) =
-    statements_of-next format decide before row (rows ++ back) s (line_complete format decide decides before row s first)
-    ∙ statements_complete back rest
-    ∙ ap (λ b. statements_of format decide b back) (append_assoc before (s ∷ []) more)
+      statements_of-next format decide before row (rows ++ back) s (line_complete format decide decides before row s first)
+      ∙ statements_complete back rest
+      ∙ ap (λ b. statements_of format decide b back) (append_assoc before (s ∷ []) more)
 
   pub file_of-ok : (rows : List Row) (statements : List S) → AreStatements format [] rows statements → format.missing statements ≡ None → file_of format decide rows ≡ Ok statements
   unfolding file_of
   file_of-ok rows statements h m =
-    let all : statements_of format decide [] rows ≡ Ok statements =
+      let all : statements_of format decide [] rows ≡ Ok statements =
       ap (statements_of format decide []) (append_nil_sym rows) ∙ statements_complete [] h ∙ statements_of-end format decide statements in
-    rw (all, m)
+      rw (all, m)
 
   pub file_of-lacking : (rows : List Row) (statements : List S) (part : Part) → AreStatements format [] rows statements → format.missing statements ≡ Some part → file_of format decide rows ≡ Err (Missing part)
   unfolding file_of
   file_of-lacking rows statements part h m =
-    let all : statements_of format decide [] rows ≡ Ok statements =
+      let all : statements_of format decide [] rows ≡ Ok statements =
       ap (statements_of format decide []) (append_nil_sym rows) ∙ statements_complete [] h ∙ statements_of-end format decide statements in
-    rw (all, m)
+      rw (all, m)
 
   pub file_of-in_row : (rows front : List Row) (row : Row) (back : List Row) (before : List S) (f : FileFault) → rows ≡ front ++ row ∷ back → AreStatements format [] front before → HasFault format before row f → file_of format decide rows ≡ Err f
   unfolding file_of
   file_of-in_row rows front row back before f e h k =
-    let all : statements_of format decide [] rows ≡ Err f =
+      let all : statements_of format decide [] rows ≡ Err f =
       ap (statements_of format decide []) e ∙ statements_complete (row ∷ back) h
       ∙ statements_of-stops format decide before row back f (line_fault_complete format decide decides before row k) in
-    rw all
+      rw all
 
   -- the first fault is the function's
   pub first_fault_given : {f : FileFault} (rows : List Row) → IsFirstFault format rows f → file_of format decide rows ≡ Err f
@@ -267,10 +271,11 @@ module _ {S V : Type 0} (format : Format S V) (decide : List S → List (List �
   sound_after : (rows : List Row) (ss : List S) (o : Result (List S) FileFault) → statements_of format decide [] rows ≡ o → on_ok o (λ all. whole (format.missing all) all) ≡ Ok ss → AreWhole format rows ss
   sound_after rows ss (Err f) e h = absurd (ok_is_not ss f (sym h))
   sound_after rows ss (Ok all) e h =
-    let parts = whole_ok all ss (format.missing all) h in
-    record {
-      read = subst (AreStatements format [] rows) parts.0 (statements_of_read rows all (statements_sound [] rows all e));
-      whole = subst (λ (xs : List S). format.missing xs ≡ None) parts.0 parts.1 }
+      let parts = whole_ok all ss (format.missing all) h in
+      record {
+        read = subst (AreStatements format [] rows) parts.0 (statements_of_read rows all (statements_sound [] rows all e));
+        whole = subst (λ (xs : List S). format.missing xs ≡ None) parts.0 parts.1;
+      }
 
   lacking_of : (rows : List Row) (all : List S) (f : FileFault) → AreStatements format [] rows all → (part : Part) × (format.missing all ≡ Some part) × (Missing part ≡ f) → IsFirstFault format rows f
   lacking_of rows all f h p = subst (IsFirstFault format rows) p.2 (lacking all p.0 h p.1)
@@ -278,7 +283,7 @@ module _ {S V : Type 0} (format : Format S V) (decide : List S → List (List �
   fault_after : (rows : List Row) (f : FileFault) (o : Result (List S) FileFault) → statements_of format decide [] rows ≡ o → on_ok o (λ all. whole (format.missing all) all) ≡ Err f → IsFirstFault format rows f
   fault_after rows f (Err g) e h = first_fault_of_stopped rows f (statements_fault_sound [] rows f (e ∙ ap Err (err_same h)))
   fault_after rows f (Ok all) e h =
-    lacking_of rows all f (statements_of_read rows all (statements_sound [] rows all e)) (whole_err all f (format.missing all) h)
+      lacking_of rows all f (statements_of_read rows all (statements_sound [] rows all e)) (whole_err all f (format.missing all) h)
 
   file_sound : (rows : List Row) (ss : List S) → file_of format decide rows ≡ Ok ss → AreWhole format rows ss
   unfolding file_of
@@ -305,7 +310,7 @@ module _ {S V : Type 0} (format : Format S V) (decide : List S → List (List �
 
   pub accepted_has_no_fault : AcceptedHasNoFault format
   accepted_has_no_fault rows v f h k =
-    ok_is_not h.statements f (sym (file_of-ok rows h.statements h.read h.whole) ∙ first_fault_given rows k)
+      ok_is_not h.statements f (sym (file_of-ok rows h.statements h.read h.whole) ∙ first_fault_given rows k)
 
   judged_by : (rows : List Row) (o : Result (List S) FileFault) → file_of format decide rows ≡ o → ((ss : List S) × AreWhole format rows ss) ⊎ ((f : FileFault) × IsFirstFault format rows f)
   judged_by rows (Ok ss) e = inl (ss, file_sound rows ss e)

@@ -1,12 +1,10 @@
 -- Each lattice file has a verdict.
-use Rattle.std.proofs.Common.{◌≡◌, ℕ, ◌<◌, Bool, List, map, Option, Some, None, Result, Ok, Err, length, refl, arith}
+use Rattle.std.proofs.Common.{◌≡◌, ◌<◌, List, map, Option, Some, None, Result, Ok, Err, length, refl, arith}
 use Rattle.xc_base.specs.declared.fault.FileFault.{FileFault}
 use Rattle.xc_base.specs.Formats.{Row, IsAccepted}
 use Rattle.xc_base.specs.Judging.{AreWhole}
 use Rattle.xc_base.specs.Deciding.{file_of}
 use Rattle.xc_base.proofs.Deciding.{gives_statements, gives_faults}
-use Rattle.xc_order.specs.Pairs.{IsListed}
-use Rattle.xc_theory.specs.Orders.{IsSpannedBy}
 use Rattle.xc_lattice.specs.declared.breaks.Break.{Break}
 use Rattle.xc_lattice.specs.declared.statement.Statement.{Statement}
 use Rattle.xc_lattice.specs.Breaks.{first_break}

@@ -1,5 +1,5 @@
 -- Pairs of elements span a table.
-use Rattle.std.proofs.Common.{◌≡◌, ℕ, zero, suc, ◌+◌, ◌<◌, ◌≤◌, Bool, List, length, add-one, arith}
+use Rattle.std.proofs.Common.{ℕ, zero, suc, ◌<◌, ◌≤◌, Bool, List, length, add-one, arith}
 use Rattle.xc_theory.specs.Orders.{IsSpannedBy}
 use Rattle.xc_order.specs.declared.order.Pair.{Pair}
 use Rattle.xc_order.specs.Pairs.{IsListed, AreBelow}

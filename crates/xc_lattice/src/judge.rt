@@ -93,11 +93,13 @@ fn count_fault(s: &Statement, line: u32) -> Option<FileFault>
     ensures { result ≡ excess_fault line (element_excess [] s.now) }
 {
     match s {
-        Statement::Elements(names) if names.len() < 2 || names.len() > 64 => Some(FileFault::Count {
-            line,
-            what: Counted::Elements,
-            found: names.len() as u64,
-        }),
+        Statement::Elements(names) if names.len() < 2 || names.len() > 64 => Some(
+            FileFault::Count {
+                line,
+                what: Counted::Elements,
+                found: names.len() as u64,
+            },
+        ),
         _ => None,
     }
 }

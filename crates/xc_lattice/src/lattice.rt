@@ -117,6 +117,5 @@ impl Lattice {
     /// The laws of a lattice with an involution hold of it.
     pub fn is_lawful(&self)
         ensures { IsLawful (value_of self.now).algebra }
-    {
-    }
+    {}
 }
