@@ -1,5 +1,5 @@
 -- That each file has one judgement, as statements that a public function carries.
-use Rattle.std.specs.Prelude.{◌≡◌, ◌↔◌, ℕ, List, [], ◌⊎◌, Option, Some, None, Result, Ok, Err}
+use Rattle.std.specs.Prelude.{◌≡◌, ◌↔◌, ℕ, List, [], ◌⊎◌, Option, None, Ok, Err}
 use Rattle.xc_base.specs.declared.fault.FileFault.{FileFault}
 use Rattle.xc_base.specs.Formats.{Format, Row, AreStatements, IsAccepted, IsFirstFault}
 use Rattle.xc_base.specs.Deciding.{file_of}
