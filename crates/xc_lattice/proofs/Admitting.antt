@@ -1,8 +1,7 @@
 -- What is ready to be judged has negations in range, and the elements of a break have names.
 use Rattle.std.proofs.Common.{◌≡◌, ℕ, ◌<◌, List, length, get_or, Option, sym, ◌∙◌, ap, subst, arith}
-use Rattle.std.specs.List.{All}
 use Rattle.std.proofs.lemmas.List.{get_or_default}
-use Rattle.xc_theory.specs.Lattices.{LatticeData, size, negation, IsWellShaped}
+use Rattle.xc_theory.specs.Lattices.{LatticeData, size, IsWellShaped}
 use Rattle.xc_lattice.specs.declared.breaks.Break.{Break}
 use Rattle.xc_lattice.specs.Breaks.{first_break}
 

@@ -1,5 +1,5 @@
 -- The elements of a first break are elements.
-use Rattle.std.proofs.Common.{◌≡◌, ℕ, zero, suc, ◌+◌, ◌<◌, ◌≤◌, Bool, true, false, cond, List, [], ◌∷◌, ◌++◌, Option, Some, None, length, map, get_or, ◌⊎◌, inl, inr, refl, sym, ◌∙◌, subst, ap, arith}
+use Rattle.std.proofs.Common.{◌≡◌, ℕ, zero, suc, ◌+◌, ◌<◌, Bool, true, false, cond, List, [], ◌∷◌, ◌++◌, Option, Some, None, length, map, get_or, ◌⊎◌, inl, inr, refl, subst, ap, arith}
 use Rattle.std.specs.List.{find, flat_map, range_with_len, All}
 use Rattle.xc_theory.specs.Lattices.{LatticeData, size}
 use Rattle.xc_lattice.specs.declared.breaks.Break.{Break}
@@ -32,8 +32,9 @@ Has-flat_map : {X Y : Type 0} (f : X → List Y) (xs : List X) (y : Y) → Has (
 Has-flat_map f [] y h = absurd h
 Has-flat_map f (x ∷ xs) y h =
     elim (Has-append (f x) (flat_map f xs) y h) as (λ _. (z : _) × (Has (x ∷ xs) z) × (Has (f z) y)) [
-      inl a ↦ (x, inl refl, a)
-      | inr b ↦ let rest = Has-flat_map f xs y b in (rest.0, inr rest.1, rest.2) ]
+      | inl a ↦ (x, inl refl, a)
+      | inr b ↦ let rest = Has-flat_map f xs y b in (rest.0, inr rest.1, rest.2)
+    ]
 
 Has-range : (a n x : ℕ) → Has (range_with_len a n) x → x < a + n
 Has-range a zero x h = absurd h

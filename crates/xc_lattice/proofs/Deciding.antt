@@ -1,5 +1,5 @@
 -- The deciding function gives the statement that is due, where one is.
-use Rattle.std.proofs.Common.{◌≡◌, ℕ, Bool, true, false, ◌&&◌, List, [], ◌∷◌, Option, Some, None, length, nat_lt, if◌then◌else◌, codes, refl, sym, ◌∙◌, subst, ap}
+use Rattle.std.proofs.Common.{◌≡◌, ℕ, Bool, true, false, ◌&&◌, List, [], ◌∷◌, Some, None, length, nat_lt, if◌then◌else◌, codes, refl, ◌∙◌, subst, ap}
 use Rattle.std.specs.List.{list_all}
 use Rattle.std.specs.Str.{bytes_eq}
 use Rattle.std.proofs.lemmas.Slice.Eq.{bytes_eq-Decides}
@@ -61,8 +61,8 @@ module _ (s t : Statement) (more : List Statement) (word a b : List ℕ) (named 
 
   given_not : (r : Statement) → given (bytes_eq word (codes "not")) (Not a b) ≡ Some r → IsDue (s ∷ t ∷ more) (word ∷ a ∷ b ∷ []) r
   given_not r h =
-    let parts = given_some (bytes_eq word (codes "not")) (Not a b) r h in
-    subst (IsDue (s ∷ t ∷ more) (word ∷ a ∷ b ∷ [])) parts.1 (not_due parts.0)
+      let parts = given_some (bytes_eq word (codes "not")) (Not a b) r h in
+      subst (IsDue (s ∷ t ∷ more) (word ∷ a ∷ b ∷ [])) parts.1 (not_due parts.0)
 
   pair_sound : (x : Bool) (r : Statement) → bytes_eq word (codes "below") ≡ x → (if x then Some (Below a b) else given (bytes_eq word (codes "not")) (Not a b)) ≡ Some r → IsDue (s ∷ t ∷ more) (word ∷ a ∷ b ∷ []) r
   pair_sound true r e h = subst (IsDue (s ∷ t ∷ more) (word ∷ a ∷ b ∷ [])) (some_same h) (below_due e)

@@ -1,16 +1,15 @@
 -- The faultless statements of a whole file are its name, its elements and facts on these.
-use Rattle.std.proofs.Common.{◌≡◌, ℕ, zero, suc, ◌<◌, ◌≤◌, Bool, true, false, ◌&&◌, ◌||◌, not, List, [], ◌∷◌, ◌++◌, Option, Some, None, length, get_or, nat_lt, nat_le, if◌then◌else◌, ◌⊎◌, inl, inr, refl, sym, ◌∙◌, subst, ap, arith}
-use Rattle.std.specs.List.{list_any, list_all, Contains}
+use Rattle.std.proofs.Common.{◌≡◌, ℕ, zero, suc, ◌<◌, ◌≤◌, Bool, true, false, ◌&&◌, not, List, [], ◌∷◌, ◌++◌, Some, None, length, get_or, nat_lt, nat_le, if◌then◌else◌, ◌⊎◌, inl, inr, refl, sym, subst, ap, arith}
+use Rattle.std.specs.List.{list_all, Contains}
 use Rattle.std.proofs.lemmas.Bool.{and_parts, leb-true}
 use Rattle.xc_base.specs.Words.{is_name}
 use Rattle.xc_base.specs.Formats.{Row, Excess, IsFaultless, AreStatements}
 use Rattle.xc_base.specs.Formats.AreStatements.{none, next}
-use Rattle.xc_base.specs.Judging.{AreWhole}
 use Rattle.xc_base.specs.declared.fault.Part.TheVariants as parts
 use Rattle.xc_base.specs.declared.fault.Counted.TheVariants as counted
 use Rattle.xc_lattice.specs.declared.statement.Statement.{Statement}
 use Rattle.xc_lattice.specs.declared.statement.Statement.TheVariants.{Lattice, Elements, Below, Not}
-use Rattle.xc_lattice.specs.LatticeFiles.{is_among, has_names, has_twice, negates, element_names, element_excess, lattice_format, missing_part}
+use Rattle.xc_lattice.specs.LatticeFiles.{is_among, has_names, element_excess, lattice_format, missing_part}
 use Rattle.xc_lattice.specs.Drafts.{IsFact, AreFacts, IsDraft}
 
 not_true : false ≡ true → ⊥
@@ -37,8 +36,8 @@ facts_from : {before : List Statement} {rows : List Row} {more : List Statement}
 facts_from name names mid (none before) e = tt
 facts_from name names mid (next before row rows s more first rest) e =
     let here : IsFact names before s =
-      subst (λ (b : List Statement). IsFact names b s) (sym e)
-      (fact_from name names mid row.tokens s (subst (λ (b : List Statement). IsFaultless lattice_format b row.tokens s) e first)) in
+    subst (λ (b : List Statement). IsFact names b s) (sym e)
+    (fact_from name names mid row.tokens s (subst (λ (b : List Statement). IsFaultless lattice_format b row.tokens s) e first)) in
     (here, facts_from name names (mid ++ s ∷ []) rest (ap (λ b. b ++ s ∷ []) e))
 
 -- the number of elements is from 2 to 64
@@ -63,8 +62,16 @@ elements_draft name row rows (Not a b) more h rest = absurd (not_true h.due.plac
 elements_draft name row rows (Elements names) more h rest =
     let limits = in_limits (Lattice name ∷ []) names h.few in
     record {
-      name = name; names = names; facts = more; parts = refl; some = limits.0; few = limits.1;
-      different = h.first; named = elements_named names h.due.named; known = facts_from name names [] rest refl }
+      name = name;
+      names = names;
+      facts = more;
+      parts = refl;
+      some = limits.0;
+      few = limits.1;
+      different = h.first;
+      named = elements_named names h.due.named;
+      known = facts_from name names [] rest refl;
+    }
 
 second_draft : {before : List Statement} {rows : List Row} {more : List Statement} (name : List ℕ)
     → AreStatements lattice_format before rows more → before ≡ Lattice name ∷ [] → missing_part (Lattice name ∷ more) ≡ None → IsDraft (Lattice name ∷ more)

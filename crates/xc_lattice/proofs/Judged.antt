@@ -1,7 +1,6 @@
 -- What a reader gives is the verdict on the file.
-use Rattle.std.proofs.Common.{◌≡◌, List, [], Result, Ok, Err, IfOk, IfErr, None, sym, ◌∙◌, subst, ap}
+use Rattle.std.proofs.Common.{◌≡◌, List, Result, Ok, Err, IfOk, IfErr, None, sym, subst}
 use Rattle.std.specs.Result.{IsErrAnd}
-use Rattle.xc_base.specs.declared.fault.FileFault.{FileFault}
 use Rattle.xc_base.specs.declared.fault.Stop.{Stop}
 use Rattle.xc_base.specs.declared.fault.Stop.TheVariants as stops
 use Rattle.xc_base.specs.Formats.{Row}
@@ -13,7 +12,6 @@ use Rattle.xc_lattice.specs.declared.statement.Statement.{Statement}
 use Rattle.xc_lattice.specs.declared.fault.LatFault.{LatFault}
 use Rattle.xc_lattice.specs.declared.fault.LatFault.TheVariants.{File, Broken, Memory}
 use Rattle.xc_lattice.specs.LatticeFiles.{LatticeValue, Says, IsLattice, lattice_format, missing_part}
-use Rattle.xc_lattice.specs.Breaks.{first_break}
 use Rattle.xc_lattice.specs.Deciding.{decide}
 use Rattle.xc_lattice.specs.Drafts.{IsDraft, IsReady}
 use Rattle.xc_lattice.specs.Stops.{fault_of}
@@ -47,8 +45,12 @@ refusal_is_fault rows ss v (File fault) h says refused = absurd refused
 refusal_is_fault rows ss v (Broken law names) h says refused =
     let whole = whole_file rows ss h in
     record {
-      value = v; elements = refused.elements; accepted = record { statements = ss; read = whole.read; whole = whole.whole; says = says };
-      broken = refused.broken; named = refused.named }
+      value = v;
+      elements = refused.elements;
+      accepted = record { statements = ss; read = whole.read; whole = whole.whole; says = says };
+      broken = refused.broken;
+      named = refused.named;
+    }
 refusal_is_fault rows ss v Memory h says refused = tt
 
 -- the fault, where the statements stop

@@ -4,6 +4,7 @@ pub mod Breaking
 pub mod Deciding
 pub mod Drafts
 pub mod Ends
+pub mod Existence
 pub mod Finding
 pub mod Judged
 pub mod Lawful
@@ -11,6 +12,7 @@ pub mod Names
 pub mod Places
 pub mod Reading
 pub mod Said
+pub mod Spanning
 pub mod Tokens
 pub mod Values
 pub mod Verdicts

@@ -7,7 +7,7 @@ use Rattle.std.proofs.lemmas.List.Sums.{prefix_len-le-length}
 use Rattle.xc_lattice.specs.Drafts.{file_name, pairs_of, negated_by, place_of}
 use Rattle.xc_lattice.specs.declared.statement.Statement.{Statement}
 use Rattle.xc_lattice.specs.declared.statement.Statement.TheVariants.{Lattice, Elements, Below, Not}
-use Rattle.xc_lattice.specs.LatticeFiles.{is_among, has_twice, element_names, negates, negation_part, missing_part}
+use Rattle.xc_lattice.specs.LatticeFiles.{is_among, has_twice, element_names, negates, negation_part, missing_part, element_excess}
 
 pub twice_from : (names : List (List ℕ)) (i : ℕ) (d : List ℕ) → i < length names → has_twice (drop i names) ≡ (is_among (drop (i + 1) names) (get_or names i d) || has_twice (drop (i + 1) names))
 twice_from names i d h = rw (add-one, drop-cons names i d)
@@ -67,3 +67,10 @@ some_below m n k false e h = cc
 
 pub found_in_range : (names : List (List ℕ)) (name : List ℕ) (k : ℕ) → position (bytes_eq name) names ≡ Some k → k < length names
 found_in_range names name k h = some_below (place_of names name) (length names) k (nat_lt (place_of names name) (length names)) refl h
+
+-- the number of elements does not depend on the statements before
+pub excess_anywhere : (before : List Statement) (s : Statement) → element_excess before s ≡ element_excess [] s
+excess_anywhere before (Lattice name) = refl
+excess_anywhere before (Elements names) = refl
+excess_anywhere before (Below low high) = refl
+excess_anywhere before (Not element negated) = refl

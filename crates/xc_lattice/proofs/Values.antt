@@ -1,5 +1,5 @@
 -- What the statements of a whole file say is one value.
-use Rattle.std.proofs.Common.{◌≡◌, ℕ, ◌<◌, Bool, true, false, ◌||◌, List, [], ◌∷◌, ◌++◌, length, ◌⊎◌, inl, inr, refl, sym, ◌∙◌, subst, ap, arith, ext_get_or}
+use Rattle.std.proofs.Common.{◌≡◌, ℕ, ◌<◌, Bool, true, false, ◌||◌, List, [], ◌∷◌, ◌++◌, length, inl, inr, refl, sym, ◌∙◌, subst, ap, arith, ext_get_or}
 use Rattle.std.specs.List.{list_any, Contains}
 use Rattle.std.proofs.lemmas.Bool.{both_ways}
 use Rattle.std.proofs.lemmas.List.Folds.{list_any-append}
@@ -25,8 +25,8 @@ module _ (names : List (List ℕ)) where
   not_known before [] a b h k = absurd k
   not_known before (s ∷ more) a b h (inl e) = subst (IsFact names before) e h.0
   not_known before (s ∷ more) a b h (inr k) =
-    let rest = not_known (before ++ s ∷ []) more a b h.1 k in
-    (rest.0, rest.1, or_false_left (list_any (negates a) before) (list_any (negates a) (s ∷ [])) (sym (list_any-append (negates a) before (s ∷ [])) ∙ rest.2))
+      let rest = not_known (before ++ s ∷ []) more a b h.1 k in
+      (rest.0, rest.1, or_false_left (list_any (negates a) before) (list_any (negates a) (s ∷ [])) (sym (list_any-append (negates a) before (s ∷ [])) ∙ rest.2))
 
   no_name : (before more : List Statement) (n : List ℕ) → AreFacts names before more → Has more (Lattice n) → ⊥
   no_name before [] n h k = k
@@ -45,12 +45,12 @@ module _ (names : List (List ℕ)) where
 
   negated_at_end : (before : List Statement) (s : Statement) (a x : List ℕ) → s ≡ Not a x → list_any (negates a) (before ++ s ∷ []) ≡ true
   negated_at_end before s a x e =
-    list_any-append (negates a) before (s ∷ [])
-    ∙ or_true (list_any (negates a) before) (negates a s) false (subst (λ (t : Statement). negates a t ≡ true) (sym e) (bytes_refl a))
+      list_any-append (negates a) before (s ∷ [])
+      ∙ or_true (list_any (negates a) before) (negates a s) false (subst (λ (t : Statement). negates a t ≡ true) (sym e) (bytes_refl a))
 
   not_twice : (before more : List Statement) (s : Statement) (a x y : List ℕ) → AreFacts names (before ++ s ∷ []) more → s ≡ Not a x → Has more (Not a y) → ⊥
   not_twice before more s a x y h e k =
-    both_ways (list_any (negates a) (before ++ s ∷ [])) (not_known (before ++ s ∷ []) more a y h k).2 (negated_at_end before s a x e)
+      both_ways (list_any (negates a) (before ++ s ∷ [])) (not_known (before ++ s ∷ []) more a y h k).2 (negated_at_end before s a x e)
 
   same_negated : (s : Statement) (a x y : List ℕ) → s ≡ Not a x → s ≡ Not a y → x ≡ y
   same_negated s a x y e f = cc
@@ -98,12 +98,12 @@ module _ (ss : List Statement) (d : IsDraft ss) where
 
   pub known_not : (a b : List ℕ) → Contains ss (Not a b) → (is_among d.names a ≡ true) × (is_among d.names b ≡ true)
   known_not a b h =
-    let all = not_known d.names (Lattice d.name ∷ Elements d.names ∷ []) d.facts a b d.known (not_by a b (by_parts (Not a b) h)) in (all.0, all.1)
+      let all = not_known d.names (Lattice d.name ∷ Elements d.names ∷ []) d.facts a b d.known (not_by a b (by_parts (Not a b) h)) in (all.0, all.1)
 
   pub the_negation : (a x y : List ℕ) → Contains ss (Not a x) → Contains ss (Not a y) → x ≡ y
   the_negation a x y h k =
-    one_not d.names (Lattice d.name ∷ Elements d.names ∷ []) d.facts a x y d.known
-    (not_by a x (by_parts (Not a x) h)) (not_by a y (by_parts (Not a y) k))
+      one_not d.names (Lattice d.name ∷ Elements d.names ∷ []) d.facts a x y d.known
+      (not_by a x (by_parts (Not a x) h)) (not_by a y (by_parts (Not a y) k))
 
 -- lists of negations that the statements say are the same
 same_negations : (ss : List Statement) (d : IsDraft ss) (names : List (List ℕ)) (p q : LatticeData) → d.names ≡ names
@@ -114,11 +114,11 @@ same_negations : (ss : List Statement) (d : IsDraft ss) (names : List (List ℕ)
 same_negations ss d names p q e lp lq hp hq =
     ext_get_or 0 p.negations q.negations (lp ∙ sym lq)
     (λ i within.
-      let low : i < length names = omega (arith, lp) in
-      let one = hp i low in let two = hq i low in
-      same_place names (negation p i) (negation q i)
-      (subst (λ (xs : List (List ℕ)). has_twice xs ≡ false) e d.different) one.0 two.0
-      (the_negation ss d (name_at names i) (name_at names (negation p i)) (name_at names (negation q i)) one.1 two.1))
+    let low : i < length names = omega (arith, lp) in
+    let one = hp i low in let two = hq i low in
+    same_place names (negation p i) (negation q i)
+    (subst (λ (xs : List (List ℕ)). has_twice xs ≡ false) e d.different) one.0 two.0
+    (the_negation ss d (name_at names i) (name_at names (negation p i)) (name_at names (negation q i)) one.1 two.1))
 
 same_value : (n m : List ℕ) (ns ms : List (List ℕ)) (t u : List (List Bool)) (p q : List ℕ) → n ≡ m → ns ≡ ms → t ≡ u → p ≡ q
     → ◌≡◌ {A = LatticeValue} (record { name = n; names = ns; algebra = record { order = t; negations = p } }) (record { name = m; names = ms; algebra = record { order = u; negations = q } })
@@ -128,9 +128,9 @@ pub says_once : (ss : List Statement) (d : IsDraft ss) (v w : LatticeValue) → 
 says_once ss d v w hv hw =
     let names : v.names ≡ w.names = sym (the_names ss d v.names hv.names) ∙ the_names ss d w.names hw.names in
     let order : IsSpannedBy (length v.names) (SaysBelow ss v.names) w.algebra.order =
-      subst (λ (ns : List (List ℕ)). IsSpannedBy (length ns) (SaysBelow ss ns) w.algebra.order) (sym names) hw.order in
+    subst (λ (ns : List (List ℕ)). IsSpannedBy (length ns) (SaysBelow ss ns) w.algebra.order) (sym names) hw.order in
     let negated : (a : ℕ) → a < length v.names → (negation w.algebra a < length v.names) × SaysNegation ss v.names a (negation w.algebra a) =
-      subst (λ (ns : List (List ℕ)). (a : ℕ) → a < length ns → (negation w.algebra a < length ns) × SaysNegation ss ns a (negation w.algebra a)) (sym names) hw.negated in
+    subst (λ (ns : List (List ℕ)). (a : ℕ) → a < length ns → (negation w.algebra a < length ns) × SaysNegation ss ns a (negation w.algebra a)) (sym names) hw.negated in
     same_value v.name w.name v.names w.names v.algebra.order w.algebra.order v.algebra.negations w.algebra.negations
     (sym (the_name ss d v.name hv.name) ∙ the_name ss d w.name hw.name) names
     (spanned_once (length v.names) (SaysBelow ss v.names) v.algebra.order w.algebra.order hv.order order)

@@ -1,12 +1,12 @@
 -- A lattice file has one verdict.
-use Rattle.std.proofs.Common.{◌≡◌, ℕ, List, [], ◌∷◌, Option, Some, None, map, refl, sym, ◌∙◌, subst, ap}
-use Rattle.xc_base.specs.Formats.{Row, AreStatements, IsAccepted}
+use Rattle.std.proofs.Common.{◌≡◌, ℕ, List, Some, None, map, sym, ◌∙◌, subst, ap}
+use Rattle.xc_base.specs.Formats.{Row, IsAccepted}
 use Rattle.xc_base.proofs.Deciding.{statements_are_unique, first_faults_are_unique, accepted_has_no_fault}
 use Rattle.xc_lattice.specs.declared.law.Law.{Law}
 use Rattle.xc_lattice.specs.declared.statement.Statement.{Statement}
 use Rattle.xc_lattice.specs.Breaks.{first_break}
 use Rattle.xc_lattice.specs.declared.breaks.Break.{Break}
-use Rattle.xc_lattice.specs.LatticeFiles.{LatticeValue, Says, lattice_format, name_at, IsBrokenBy, IsLattice, Verdict, IsVerdict}
+use Rattle.xc_lattice.specs.LatticeFiles.{LatticeValue, Says, lattice_format, name_at, IsBrokenBy, IsLattice}
 use Rattle.xc_lattice.specs.LatticeFiles.Verdict.{Faulty, Unlawful, Lawful}
 use Rattle.xc_lattice.specs.Laws.{VerdictsAreUnique}
 use Rattle.xc_lattice.specs.Deciding.{decide}
@@ -37,8 +37,8 @@ broken_once : (rows : List Row) (l m : Law) (ns ms : List (List ℕ)) → IsBrok
 broken_once rows l m ns ms h k =
     let value = accepted_once rows h.value k.value h.accepted k.accepted in
     let same =
-      same_break (record { law = l; elements = h.elements }) (record { law = m; elements = k.elements })
-      (sym h.broken ∙ ap (λ (w : LatticeValue). first_break w.algebra) value ∙ k.broken) in
+    same_break (record { law = l; elements = h.elements }) (record { law = m; elements = k.elements })
+    (sym h.broken ∙ ap (λ (w : LatticeValue). first_break w.algebra) value ∙ k.broken) in
     same_unlawful l m ns ms same.0 (h.named ∙ same_names h.value k.value h.elements k.elements value same.1 ∙ sym k.named)
 
 unbroken_is_not_broken : (rows : List Row) (l : Law) (ns : List (List ℕ)) (v : LatticeValue) → IsBrokenBy rows l ns → IsLattice rows v → ⊥

@@ -1,12 +1,11 @@
 -- Lattice files: their statements, and what they say.
-use Rattle.std.specs.Prelude.{◌≡◌, ◌<◌, ℕ, Bool, true, false, map, ◌&&◌, ◌||◌, not, nat_lt, nat_le, if◌then◌else◌, List, [], ◌∷◌, length, Contains, find, Option, Some, None, codes, slice_index}
+use Rattle.std.specs.Prelude.{◌≡◌, ◌<◌, ℕ, Bool, true, false, map, ◌&&◌, ◌||◌, not, nat_lt, nat_le, if◌then◌else◌, List, [], ◌∷◌, length, Contains, find, Option, Some, None, codes}
 use Rattle.std.specs.List.{list_any, list_all, slice_index_or}
 use Rattle.std.specs.Str.{bytes_eq}
 use Rattle.xc_theory.specs.Orders.{IsSpannedBy}
 use Rattle.xc_theory.specs.Lattices.{LatticeData, negation}
 use Rattle.xc_base.specs.Words.{is_name}
 use Rattle.xc_base.specs.Formats.{Format, Excess, Row, IsAccepted, IsFirstFault}
-use Rattle.xc_base.specs.declared.fault.Counted.{Counted}
 use Rattle.xc_base.specs.declared.fault.Part.{Part}
 use Rattle.xc_base.specs.declared.fault.FileFault.{FileFault}
 use Rattle.xc_base.specs.declared.fault.Part.TheVariants as parts

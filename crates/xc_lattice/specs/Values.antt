@@ -4,7 +4,6 @@ use Rattle.xc_base.specs.Formats.{Row}
 use Rattle.xc_lattice.specs.Breaks.{first_break}
 use Rattle.xc_lattice.specs.LatticeFiles.{LatticeValue, IsVerdict, name_at}
 use Rattle.xc_lattice.specs.LatticeFiles.Verdict.{Faulty, Unlawful}
-use Rattle.xc_lattice.specs.declared.breaks.Break.{Break}
 use Rattle.xc_lattice.specs.declared.law.Law.{Law}
 use Rattle.xc_lattice.specs.declared.gather.Draft.{Draft}
 use Rattle.xc_lattice.specs.declared.lattice.Lattice.{Lattice}

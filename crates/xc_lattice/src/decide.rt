@@ -57,7 +57,12 @@ fn elements_line(alloc: Global, tokens: &[Lexeme]) -> Result<Option<Statement>, 
     }
 }
 
-fn pair_line(alloc: Global, word: &[u8], first: &[u8], second: &[u8]) -> Result<Option<Statement>, Memory>
+fn pair_line(
+    alloc: Global,
+    word: &[u8],
+    first: &[u8],
+    second: &[u8],
+) -> Result<Option<Statement>, Memory>
     requires first { is_name first.now ≡ true }
     requires second { is_name second.now ≡ true }
     ensures { IfOk result (λ s. s ≡ pair_line word.now first.now second.now) }
@@ -86,7 +91,11 @@ fn law_line(alloc: Global, tokens: &[Lexeme]) -> Result<Option<Statement>, Memor
 
 /// The statement that a row with these tokens is after the statements before it, where it is one.
 #[tactic(auto, unfolding(crate::specs::Deciding::decide))]
-pub(crate) fn decide(alloc: Global, before: &List<Statement>, tokens: &[Lexeme]) -> Result<Option<Statement>, Memory>
+pub(crate) fn decide(
+    alloc: Global,
+    before: &List<Statement>,
+    tokens: &[Lexeme],
+) -> Result<Option<Statement>, Memory>
     ensures { IfOk result (λ s. s ≡ decide before.now (texts tokens.now)) }
 {
     match before.as_slice() {

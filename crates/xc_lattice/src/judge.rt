@@ -1,8 +1,7 @@
-ghost use Rattle.std.specs.Prelude.{◌≡◌, ◌&&◌, List as Items};
+ghost use Rattle.std.specs.Prelude.{◌≡◌, ◌&&◌, []};
 ghost use Rattle.std.specs.List.{list_any};
 ghost use Rattle.std.specs.Str.{bytes_eq};
 ghost use Rattle.xc_base.specs.Deciding.{statement_fault, excess_fault};
-ghost use Rattle.xc_lattice.specs.declared.statement.Statement.{Statement as Stated};
 ghost use Rattle.xc_lattice.specs.LatticeFiles.{is_among, has_twice, element_names, negates, is_repeated, is_unknown, element_excess, lattice_format};
 
 use crate::statement::Statement;
@@ -91,20 +90,22 @@ fn is_unknown(before: &[Statement], s: &Statement) -> bool
 }
 
 fn count_fault(s: &Statement, line: u32) -> Option<FileFault>
-    ensures { (before : Items Stated) → result ≡ excess_fault line (element_excess before s.now) }
+    ensures { result ≡ excess_fault line (element_excess [] s.now) }
 {
     match s {
-        Statement::Elements(names) if names.len() < 2 || names.len() > 64 => Some(FileFault::Count {
-            line,
-            what: Counted::Elements,
-            found: names.len() as u64,
-        }),
+        Statement::Elements(names) if names.len() < 2 || names.len() > 64 => Some(
+            FileFault::Count {
+                line,
+                what: Counted::Elements,
+                found: names.len() as u64,
+            },
+        ),
         _ => None,
     }
 }
 
 /// The fault of a statement that is due after those before it and stands on that line.
-#[tactic(auto, unfolding(xc_base::specs::Deciding::statement_fault))]
+#[tactic(auto, using(crate::proofs::Names::excess_anywhere), unfolding(xc_base::specs::Deciding::statement_fault))]
 pub(crate) fn judge(before: &[Statement], s: &Statement, line: u32) -> Option<FileFault>
     ensures { result ≡ statement_fault lattice_format before.now line s.now }
 {

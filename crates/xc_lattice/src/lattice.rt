@@ -115,8 +115,7 @@ impl Lattice {
     }
 
     /// The laws of a lattice with an involution hold of it.
-    pub fn is_lawful(&self)
+    pub fn laws_hold(&self)
         ensures { IsLawful (value_of self.now).algebra }
-    {
-    }
+    {}
 }

@@ -22,7 +22,8 @@ pub use lattice::Lattice;
 pub use law::Law;
 pub use reader::read;
 pub use statement::Statement;
-pub use verdict::{LatticeFiles, verdicts_are_unique};
+
+pub use verdict::{LatticeFiles, files_have_one_verdict};
 
 #[cfg(test)]
 mod breaks_tests;

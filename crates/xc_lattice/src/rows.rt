@@ -13,7 +13,12 @@ use xc_base::{FileFault, Lexeme, Lines, List, Stop};
 
 /// The statement of a row after the statements before it, or the row's fault.
 #[tactic(auto, unfolding(xc_base::specs::Deciding::line_of))]
-fn read_row(alloc: Global, before: &List<Statement>, line: u32, tokens: &[Lexeme]) -> Result<Statement, Stop>
+fn read_row(
+    alloc: Global,
+    before: &List<Statement>,
+    line: u32,
+    tokens: &[Lexeme],
+) -> Result<Statement, Stop>
     ensures { Gives result
         (line_of lattice_format decide before.now (record { number = line; tokens = texts tokens.now })) }
 {
@@ -27,7 +32,12 @@ fn read_row(alloc: Global, before: &List<Statement>, line: u32, tokens: &[Lexeme
 }
 
 /// The same of the row at a place.
-fn next_statement(alloc: Global, before: &List<Statement>, lines: &Lines, row: usize) -> Result<Statement, Stop>
+fn next_statement(
+    alloc: Global,
+    before: &List<Statement>,
+    lines: &Lines,
+    row: usize,
+) -> Result<Statement, Stop>
     requires { row < length lines.now.rows }
     ensures { Gives result (line_of lattice_format decide before.now (row_at (rows_in lines.now) row)) }
 {

@@ -25,7 +25,9 @@ fn fault_told(alloc: Global, fault: &FileFault) -> Result<String, AllocError> {
         FileFault::Unknown { line } => format!(in alloc; "Unknown {line}"),
         FileFault::Count { line, found, .. } => format!(in alloc; "Count {line} {found}"),
         FileFault::Missing { part: Part::Head } => format!(in alloc; "Missing head"),
-        FileFault::Missing { part: Part::Not(name) } => format!(in alloc; "Missing not {}", name.as_str()),
+        FileFault::Missing {
+            part: Part::Not(name),
+        } => format!(in alloc; "Missing not {}", name.as_str()),
         FileFault::Missing { .. } => format!(in alloc; "Missing"),
     }
 }
@@ -55,16 +57,43 @@ fn answer(alloc: Global, text: &[u8]) -> Result<String, Fail> {
 #[test]
 fn files_have_their_verdicts(rt: HostRuntime) -> Result<(), Fail> {
     let table: [(&[u8], &str); 11] = [
-        (b"lattice two\nelements F T\nbelow F T\nnot F T\nnot T F\n".as_slice(), "lattice two 2 1 0 1 Some(1)"),
-        (b"lattice chain\nelements F M T\nbelow F M\nbelow M T\nnot F T\nnot M M\nnot T F\n".as_slice(), "lattice chain 3 2 0 2 Some(2)"),
-        (b"lattice diamond\nelements F N B T\nbelow F N\nbelow F B\nbelow N T\nbelow B T\nnot F T\nnot N N\nnot B B\nnot T F\n".as_slice(), "lattice diamond 4 2 0 3 Some(3)"),
-        (b"lattice m3\nelements 0 a b c 1\nbelow 0 a\nbelow 0 b\nbelow 0 c\nbelow a 1\nbelow b 1\nbelow c 1\nnot 0 1\nnot a a\nnot b b\nnot c c\nnot 1 0\n".as_slice(), "Distributive a b c"),
+        (
+            b"lattice two\nelements F T\nbelow F T\nnot F T\nnot T F\n".as_slice(),
+            "lattice two 2 1 0 1 Some(1)",
+        ),
+        (
+            b"lattice chain\nelements F M T\nbelow F M\nbelow M T\nnot F T\nnot M M\nnot T F\n".as_slice(),
+            "lattice chain 3 2 0 2 Some(2)",
+        ),
+        (
+            b"lattice diamond\nelements F N B T\nbelow F N\nbelow F B\nbelow N T\nbelow B T\nnot F T\nnot N N\nnot B B\nnot T F\n".as_slice(),
+            "lattice diamond 4 2 0 3 Some(3)",
+        ),
+        (
+            b"lattice m3\nelements 0 a b c 1\nbelow 0 a\nbelow 0 b\nbelow 0 c\nbelow a 1\nbelow b 1\nbelow c 1\nnot 0 1\nnot a a\nnot b b\nnot c c\nnot 1 0\n".as_slice(),
+            "Distributive a b c",
+        ),
         (b"".as_slice(), "Missing head"),
-        (b"lattice two\nelements F T\nbelow F T\nnot F T\n".as_slice(), "Missing not T"),
-        (b"# a comment\nlattice big\nelements e0 e1 e2 e3 e4 e5 e6 e7 e8 e9 e10 e11 e12 e13 e14 e15 e16 e17 e18 e19 e20 e21 e22 e23 e24 e25 e26 e27 e28 e29 e30 e31 e32 e33 e34 e35 e36 e37 e38 e39 e40 e41 e42 e43 e44 e45 e46 e47 e48 e49 e50 e51 e52 e53 e54 e55 e56 e57 e58 e59 e60 e61 e62 e63 e64\n".as_slice(), "Count 3 65"),
-        (b"lattice two\nelements F T\nbelow F T\nnot F T\nnot T F\nbelow T F\n".as_slice(), "Antisymmetry F T"),
-        (b"lattice two\nelements F F T\nbelow F X\n".as_slice(), "Repeated 2"),
-        (b"lattice two\nelements F T\nbelow F X\n".as_slice(), "Unknown 3"),
+        (
+            b"lattice two\nelements F T\nbelow F T\nnot F T\n".as_slice(),
+            "Missing not T",
+        ),
+        (
+            b"# a comment\nlattice big\nelements e0 e1 e2 e3 e4 e5 e6 e7 e8 e9 e10 e11 e12 e13 e14 e15 e16 e17 e18 e19 e20 e21 e22 e23 e24 e25 e26 e27 e28 e29 e30 e31 e32 e33 e34 e35 e36 e37 e38 e39 e40 e41 e42 e43 e44 e45 e46 e47 e48 e49 e50 e51 e52 e53 e54 e55 e56 e57 e58 e59 e60 e61 e62 e63 e64\n".as_slice(),
+            "Count 3 65",
+        ),
+        (
+            b"lattice two\nelements F T\nbelow F T\nnot F T\nnot T F\nbelow T F\n".as_slice(),
+            "Antisymmetry F T",
+        ),
+        (
+            b"lattice two\nelements F F T\nbelow F X\n".as_slice(),
+            "Repeated 2",
+        ),
+        (
+            b"lattice two\nelements F T\nbelow F X\n".as_slice(),
+            "Unknown 3",
+        ),
         (b"lattice two\nbelow F T\n".as_slice(), "NoStatement 2"),
     ];
     for (text, expected) in table {

@@ -1,4 +1,4 @@
-ghost use Rattle.xc_lattice.specs.Laws.{VerdictsAreUnique};
+ghost use Rattle.xc_lattice.specs.Laws.{VerdictsAreUnique, EachHasVerdict};
 
 use xc_base::{FileKind, files_are_judged_once};
 
@@ -20,8 +20,9 @@ impl FileKind for LatticeFiles {
 }
 
 /// A lattice file has one verdict: its first fault, or a law that it breaks first, or its lattice.
-pub fn verdicts_are_unique()
-    ensures { VerdictsAreUnique }
+pub fn files_have_one_verdict()
+    ensures at_most { VerdictsAreUnique }
+    ensures at_least { EachHasVerdict }
 {
     files_are_judged_once::<LatticeFiles>();
 }

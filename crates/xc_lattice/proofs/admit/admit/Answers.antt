@@ -1,6 +1,5 @@
-use Rattle.std.proofs.Common.{◌≡◌, ◌<◌, ℕ, List, Some, None, length, get_or, sym, ◌∙◌, ap, subst, arith}
+use Rattle.std.proofs.Common.{◌<◌, ℕ, List, Some, None, length, get_or, sym, subst, arith}
 use Rattle.xc_theory.specs.Lattices.{LatticeData, size}
-use Rattle.xc_lattice.specs.Breaks.{first_break}
 use Rattle.xc_lattice.proofs.Lawful.{lawful_from_no_break}
 use Rattle.xc_lattice.proofs.BreakRange.{break_in_range}
 use Rattle.xc_lattice.proofs.Admitting.{negations_in_range, found_in}

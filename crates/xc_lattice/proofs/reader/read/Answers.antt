@@ -1,10 +1,7 @@
-use Rattle.std.proofs.Common.{◌≡◌, List, Ok, sym, ◌∙◌, ap, subst, rules}
-use Rattle.xc_base.specs.Formats.{Row}
+use Rattle.std.proofs.Common.{List, sym, ◌∙◌, ap, subst}
 use Rattle.xc_base.specs.Lines.{rows_in}
-use Rattle.xc_base.specs.Deciding.{file_of}
 use Rattle.xc_lattice.specs.declared.statement.Statement.{Statement}
-use Rattle.xc_lattice.specs.LatticeFiles.{lattice_format, missing_part, Says}
-use Rattle.xc_lattice.specs.Deciding.{decide}
+use Rattle.xc_lattice.specs.LatticeFiles.{missing_part, Says}
 use Rattle.xc_lattice.specs.Drafts.{IsDraft}
 use Rattle.xc_lattice.specs.Values.{said}
 use Rattle.xc_lattice.proofs.Judged.{no_part_lacks, file_is_draft, file_is_ready, admitted_is_verdict, refused_is_fault, stopped_is_fault}
@@ -35,5 +32,5 @@ returns-clause-err c =
     (subst (λ (ss : List Statement). Says ss (said c.in_ok-draft.draft)) c.as_slice.ensures c.in_ok-draft.ensures) c.admit.result c.admit.ensures.err
 
 pub returns-in_err-statements-clause-err : goal.returns-in_err-statements-clause-err
-returns-in_err-statements-clause-err c = 
+returns-in_err-statements-clause-err c =
     stopped_is_fault (rows_in c.args.lines.now) c.in_err-statements.field-0.0 c.in_err-statements.ensures c.from_residual.result c.from_residual.ensures.1
