@@ -2,3 +2,4 @@ pub mod Judging
 pub mod Preparing
 pub mod Outcomes
 pub mod Serving
+pub mod Existence

@@ -2,12 +2,14 @@
 #![tactic(auto)]
 
 mod halt;
+mod outcome;
 mod prepare;
 mod program;
 mod request;
 mod status;
 mod text;
 
+pub use outcome::requests_have_one_outcome;
 pub use program::run;
 pub use status::Status;
 
