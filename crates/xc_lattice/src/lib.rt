@@ -22,7 +22,6 @@ pub use lattice::Lattice;
 pub use law::Law;
 pub use reader::read;
 pub use statement::Statement;
-
 pub use verdict::{LatticeFiles, files_have_one_verdict};
 
 #[cfg(test)]

@@ -1,9 +1,9 @@
 -- A request has an outcome over all files.
-use Rattle.std.proofs.Common.{◌≡◌, ◌<◌, ◌≤◌, ℕ, List, map, Option, Some, None, MatchOption, length, refl, sym, subst, Bool, slice_index, arith}
+use Rattle.std.proofs.Common.{◌≡◌, ℕ, List, map, Option, Some, None, MatchOption, length, refl, sym, subst, Bool, slice_index, arith}
 use Rattle.std.specs.List.{range_with_len}
 use Rattle.std.proofs.lemmas.List.FromFn.{get_or-map-range_with_len}
 use Rattle.xc_theory.specs.Orders.{IsAntisymmetric}
-use Rattle.xc_theory.specs.Lattices.{LatticeData, size, IsLawful}
+use Rattle.xc_theory.specs.Lattices.{size, IsLawful}
 use Rattle.xc_theory.specs.Chains.{IsHeight}
 use Rattle.xc_order.specs.Order.{IsOrder}
 use Rattle.xc_order.specs.Heights.{steps_up, greatest_level}
@@ -24,23 +24,24 @@ use Rattle.xc_top.specs.Laws.{RequestsHaveOutcomes, OutcomesAreUnique}
 use Rattle.xc_top.proofs.Outcomes.{course_once}
 use Rattle.xc_top.specs.Requests.{Request, LatticeOf, request_of}
 use Rattle.xc_top.specs.Texts.{file_line, lattice_text, broken_text}
-use Rattle.xc_top.specs.Outcomes.{Outcome, Absent, Refusal, Served, file_limit, HasText, ComesOf, JudgesLattice, LatticeTasks, IsCourse}
+use Rattle.xc_top.specs.Outcomes.{Outcome, Absent, Refusal, Served, file_limit, JudgesLattice, LatticeTasks, IsCourse}
 use Rattle.xc_top.specs.declared.status.Status.TheVariants.{Done, No}
 
 -- an antisymmetric order has a height
 height_of : (n : ℕ) (table : List (List Bool)) → IsOrder n table → IsAntisymmetric table → (h : ℕ) × IsHeight table h
 height_of n table order anti =
-    let levels = map (steps_up table n) (range_with_len 0 (length table)) in
-    (greatest_level (slice_index levels) (length table),
-    IsHeight-from_levels n n table levels (greatest_level (slice_index levels) (length table)) order anti (omega arith)
-        (λ a within. get_or-map-range_with_len (steps_up table n) 0 (length table) a a 0 within (omega arith)) refl)
+    let levels = map (steps_up table n) (range_with_len 0 (length table)) in (
+      greatest_level (slice_index levels) (length table),
+      IsHeight-from_levels n n table levels (greatest_level (slice_index levels) (length table)) order anti (omega arith)
+          (λ a within. get_or-map-range_with_len (steps_up table n) 0 (length table) a a 0 within (omega arith)) refl,
+    )
 
 -- so has a lattice that a file says
 ready_height : (v : LatticeValue) → IsReady v → IsLawful v.algebra → (h : ℕ) × IsHeight v.algebra.order h
 ready_height v ready lawful =
     height_of (size v.algebra) v.algebra.order
-        (record { positive = omega (arith, ready.some); limit = ready.few; square = ready.shape.square; reflexive = ready.reflexive; transitive = ready.transitive })
-        lawful.antisymmetric
+    (record { positive = omega (arith, ready.some); limit = ready.few; square = ready.shape.square; reflexive = ready.reflexive; transitive = ready.transitive })
+    lawful.antisymmetric
 
 lattice_height : (rows : List Row) (v : LatticeValue) → IsLattice rows v → (h : ℕ) × IsHeight v.algebra.order h
 lattice_height rows v is =

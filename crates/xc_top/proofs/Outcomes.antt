@@ -8,10 +8,10 @@ use Rattle.xc_base.specs.declared.shelf.File.{File}
 use Rattle.xc_base.specs.declared.fault.TextFault.{TextFault}
 use Rattle.xc_theory.proofs.Chains.{heights_are_unique}
 use Rattle.xc_lattice.proofs.Verdicts.{verdicts_are_unique}
-use Rattle.xc_lattice.specs.LatticeFiles.{LatticeValue, Verdict, Faulty, Unlawful, Lawful, IsVerdict}
-use Rattle.xc_top.specs.Requests.{Request, LatticeOf, request_of}
+use Rattle.xc_lattice.specs.LatticeFiles.{LatticeValue, Verdict, Faulty, Unlawful, Lawful}
+use Rattle.xc_top.specs.Requests.{Request, LatticeOf}
 use Rattle.xc_top.specs.Texts.{file_line, lattice_text}
-use Rattle.xc_top.specs.Outcomes.{Outcome, Absent, Refusal, Served, file_limit, HasText, ComesOf, JudgesLattice, Cuts, LatticeTasks, Loads, IsCourse, IsOutcome}
+use Rattle.xc_top.specs.Outcomes.{Outcome, Absent, Refusal, Served, file_limit, HasText, ComesOf, JudgesLattice, LatticeTasks, IsCourse}
 use Rattle.xc_top.specs.declared.status.Status.TheVariants.{Done}
 
 one_text : (v : LatticeValue) (o p : Outcome) → HasText v o → HasText v p → o ≡ p

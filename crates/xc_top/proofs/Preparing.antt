@@ -1,5 +1,5 @@
 -- What comes of a request whose file was loaded.
-use Rattle.std.proofs.Common.{◌≡◌, ℕ, ◌+◌, ◌<◌, ◌≤◌, min, List, [], ◌∷◌, Option, Some, None, Result, Ok, Err, MatchOption, IfSome, Bool, true, false, cond, length, take, refl, sym, ap, ◌∙◌, subst, arith, inl, inr, ◌⊎◌}
+use Rattle.std.proofs.Common.{◌≡◌, ℕ, ◌+◌, ◌<◌, ◌≤◌, List, [], ◌∷◌, Option, Some, None, Result, Ok, Err, MatchOption, IfSome, true, cond, length, take, sym, ap, subst, arith, inl, inr, ◌⊎◌}
 use Rattle.std.specs.Option.{option_map}
 use Rattle.std.specs.Str.{bytes_eq}
 use Rattle.std.specs.String.{string_bytes}
@@ -12,9 +12,9 @@ use Rattle.xc_base.specs.declared.fault.TextFault.TheVariants.{LongFile}
 use Rattle.xc_base.specs.Lines.{text_rows}
 use Rattle.xc_base.specs.Shelves.{Told, Shelved, IsLoaded, held}
 use Rattle.xc_base.specs.declared.shelf.File.{File}
-use Rattle.xc_top.specs.Requests.{Request, LatticeOf}
+use Rattle.xc_top.specs.Requests.{LatticeOf}
 use Rattle.xc_top.specs.Texts.{file_line}
-use Rattle.xc_top.specs.Outcomes.{Outcome, Absent, Refusal, Served, file_limit, LatticeTasks, JudgesLattice, IsCourse}
+use Rattle.xc_top.specs.Outcomes.{Outcome, Absent, Refusal, file_limit, LatticeTasks, JudgesLattice, IsCourse}
 use Rattle.xc_top.specs.Working.{ComesTo, IsPrepared, CanRefuse, outcome_of}
 use Rattle.xc_top.specs.declared.prepare.Answer.{Answer}
 use Rattle.xc_top.specs.declared.halt.Halt.{Halt}

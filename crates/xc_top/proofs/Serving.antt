@@ -1,15 +1,14 @@
 -- What serving words comes to, from what preparing and delivering did.
-use Rattle.std.proofs.Common.{◌≡◌, ℕ, ◌≤◌, List, ◌++◌, length, take, Option, Some, None, Result, Ok, Err, MatchOption, IsSome, IfSome, IfOk, IfErr, OnOk, refl, sym, ap, ◌∙◌, subst, arith}
+use Rattle.std.proofs.Common.{◌≡◌, ℕ, List, Option, Some, None, Result, Ok, Err, MatchOption, IsSome, IfSome, IfOk, IfErr, OnOk, refl, sym, ap, subst, arith}
 use Rattle.std.proofs.Math.Seq.{take-append_seam}
 use Rattle.std.specs.String.{string_bytes}
-use Rattle.xc_base.specs.Shelves.{Told, Shelved, HasRisen}
-use Rattle.xc_base.specs.Sinks.{Sunk, AddsWhole, AddsPart, AddsFront, AddsNothing, IsFront}
+use Rattle.xc_base.specs.Shelves.{Told, Shelved}
+use Rattle.xc_base.specs.Sinks.{Sunk, AddsWhole, AddsPart, AddsFront}
 use Rattle.xc_top.specs.Requests.{Request, request_of}
 use Rattle.xc_top.specs.Texts.{read_line}
 use Rattle.xc_top.specs.Outcomes.{Outcome, Absent, Refusal, Served, IsCourse, IsOutcome}
-use Rattle.xc_top.specs.Headline.{ForOutcome, IsServed, IsRefusal, MayRefuse, AddsAtMost, FailedOnce}
+use Rattle.xc_top.specs.Headline.{IsServed, IsRefusal, MayRefuse, AddsAtMost, FailedOnce}
 use Rattle.xc_top.specs.Working.{IsPrepared, IsWorked, CanRefuse, IsWriteHalt, outcome_of, passed_status}
-use Rattle.xc_top.specs.declared.status.Status.{Status}
 use Rattle.xc_top.specs.declared.prepare.Answer.{Answer}
 use Rattle.xc_top.specs.declared.prepare.Passed.{Passed}
 use Rattle.xc_top.specs.declared.halt.Halt.{Halt}

@@ -1,6 +1,6 @@
 -- What a call of `run` does, in eight parts. What is said of files holds where the shelf tells them, and what is said of
 -- out and err where they tell their bytes.
-use Rattle.std.specs.Prelude.{◌≡◌, ◌≢◌, ℕ, Bool, true, false, List, [], ◌∷◌, ◌++◌, Option, Some, None, IfSome, map}
+use Rattle.std.specs.Prelude.{◌≡◌, ◌≢◌, ℕ, Bool, true, false, List, [], ◌∷◌, ◌++◌, Option, Some, None, IfSome}
 use Rattle.xc_base.specs.Shelves.{Told, Shelved, HasRisen, has_risen}
 use Rattle.xc_base.specs.Sinks.{Sunk, AddsWhole, AddsPart, AddsFront, AddsNothing}
 use Rattle.xc_base.specs.declared.shelf.File.{File}

@@ -1,5 +1,5 @@
 -- The outcome of a request over files: that of the first of its tasks that refuses, or that loads what is not there.
-use Rattle.std.specs.Prelude.{◌≡◌, ℕ, List, [], Option, MatchOption}
+use Rattle.std.specs.Prelude.{◌≡◌, ℕ, List, MatchOption}
 use Rattle.xc_base.specs.Formats.{Row}
 use Rattle.xc_base.specs.Lines.{text_rows}
 use Rattle.xc_base.specs.Shelves.{held}

@@ -1,9 +1,9 @@
 -- What the parts of `run` do.
-use Rattle.std.specs.Prelude.{◌≡◌, ℕ, List, [], ◌∷◌, ◌++◌, option_map, Option, None, IsSome, IfSome, Result, Ok, Err}
+use Rattle.std.specs.Prelude.{◌≡◌, ℕ, List, [], ◌∷◌, ◌++◌, option_map, None, IsSome, IfSome, Result, Ok, Err}
 use Rattle.std.specs.String.{string_bytes}
-use Rattle.xc_base.specs.Shelves.{Told, Shelved, HasRisen, IsLoaded}
+use Rattle.xc_base.specs.Shelves.{Told, Shelved, HasRisen}
 use Rattle.xc_base.specs.declared.shelf.File.{File}
-use Rattle.xc_top.specs.Outcomes.{Outcome, Absent, Refusal, Served, IsCourse, IsReached, LatticeTasks}
+use Rattle.xc_top.specs.Outcomes.{Outcome, Refusal, Served, IsCourse}
 use Rattle.xc_top.specs.Requests.{Request, request_of}
 use Rattle.xc_top.specs.Texts.{read_line}
 use Rattle.xc_top.specs.Headline.{FailedOnce, ForOutcome, IsServed, IsRefusal, MayRefuse, AddsAtMost, GetsLine}

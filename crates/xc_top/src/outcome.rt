@@ -4,5 +4,4 @@ ghost use Rattle.xc_top.specs.Laws.{RequestsHaveOutcomes, OutcomesAreUnique};
 pub fn requests_have_one_outcome()
     ensures at_least { RequestsHaveOutcomes }
     ensures at_most { OutcomesAreUnique }
-{
-}
+{}
