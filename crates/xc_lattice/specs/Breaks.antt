@@ -1,15 +1,11 @@
 -- Which law of a lattice fails first, and at which elements.
-use Rattle.std.specs.Prelude.{ℕ, suc, zero, Bool, true, false, ◌==◌, ◌&&◌, not, List, [], ◌∷◌, map, find, Option, Some, None, is_none}
+use Rattle.std.specs.Prelude.{ℕ, suc, zero, Bool, false, ◌==◌, ◌&&◌, not, List, [], ◌∷◌, map, find, Option, Some, None, is_none}
 use Rattle.std.specs.List.{flat_map, range_with_len}
 use Rattle.xc_theory.specs.Bounds.{first_meet, first_join}
 use Rattle.xc_theory.specs.Lattices.{LatticeData, size, below, meet, join, negation}
+use Rattle.xc_lattice.specs.declared.breaks.Break.{Break}
 use Rattle.xc_lattice.specs.declared.law.Law.{Law}
 use Rattle.xc_lattice.specs.declared.law.Law.TheVariants.{Antisymmetry, Meet, Join, Distributive, Involution, Antitone}
-
--- a law, and elements that break it
-pub record Break : Type 0 where
-  pub law : Law
-  pub elements : List ℕ
 
 -- the laws, in the order in which they are looked at
 abbrev pub laws : List Law

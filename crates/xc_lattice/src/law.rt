@@ -14,4 +14,3 @@ pub enum Law {
     /// Where `a` is below `b`, the negation of `b` is below that of `a`.
     Antitone,
 }
-

@@ -1,5 +1,5 @@
 -- Greatest lower and least upper bounds of lists of elements, in an order table.
-use Rattle.std.specs.Prelude.{◌≡◌, ◌<◌, ℕ, Bool, true, ◌&&◌, ◌||◌, not, List, [], ◌∷◌, length, find, Option, unwrap_or}
+use Rattle.std.specs.Prelude.{◌≡◌, ◌<◌, ℕ, Bool, true, ◌&&◌, ◌||◌, not, List, length, find, Option, unwrap_or}
 use Rattle.std.specs.List.{list_all}
 use Rattle.xc_theory.specs.Orders.{is_below, elements}
 

@@ -1,0 +1,4 @@
+pub mod Ranges
+pub mod Bounds
+pub mod Orders
+pub mod Chains
