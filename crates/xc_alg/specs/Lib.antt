@@ -1,0 +1,5 @@
+pub mod Codes
+pub mod Operations
+pub mod Products
+pub mod Bounds
+pub mod Laws
