@@ -1,2 +1,5 @@
 pub mod Codes
 pub mod Algebra
+pub mod Pairs
+pub mod Parts
+pub mod Products

@@ -21,16 +21,12 @@ firsts rows = map (λ row. slice_index row 0) rows
 abbrev pub rests : List (List ℕ) → List (List ℕ)
 rests rows = map (drop 1) rows
 
--- for each part the greatest lower bound, in it, of its digits in the rows
-abbrev pub meet_digits : List LatticeData → List (List ℕ) → List ℕ
-meet_digits [] rows = []
-meet_digits (l ∷ parts) rows = meet_of l.order (firsts rows) ∷ meet_digits parts (rests rows)
+-- for each part a bound, in it, of its digits in the rows
+abbrev pub bound_digits : (LatticeData → List ℕ → ℕ) → List LatticeData → List (List ℕ) → List ℕ
+bound_digits bound [] rows = []
+bound_digits bound (l ∷ parts) rows = bound l (firsts rows) ∷ bound_digits bound parts (rests rows)
 
--- for each part the least upper bound, in it, of its digits in the rows
-abbrev pub join_digits : List LatticeData → List (List ℕ) → List ℕ
-join_digits [] rows = []
-join_digits (l ∷ parts) rows = join_of l.order (firsts rows) ∷ join_digits parts (rests rows)
-
+-- the negation of each digit, in its part
 abbrev pub negation_digits : List LatticeData → List ℕ → List ℕ
 negation_digits [] row = []
 negation_digits (l ∷ parts) row = negation l (slice_index row 0) ∷ negation_digits parts (drop 1 row)
@@ -40,12 +36,12 @@ abbrev pub below_digits : List LatticeData → List ℕ → List ℕ → Bool
 below_digits [] left right = true
 below_digits (l ∷ parts) left right = below l (slice_index left 0) (slice_index right 0) && below_digits parts (drop 1 left) (drop 1 right)
 
--- the bounds of a list of codes
+-- the greatest lower and the least upper bound of a list of codes
 abbrev pub meet_codes : List LatticeData → List ℕ → ℕ
-meet_codes parts codes = code_of (sizes parts) (meet_digits parts (map (digits (sizes parts)) codes))
+meet_codes parts codes = code_of (sizes parts) (bound_digits (λ l digits. meet_of l.order digits) parts (map (digits (sizes parts)) codes))
 
 abbrev pub join_codes : List LatticeData → List ℕ → ℕ
-join_codes parts codes = code_of (sizes parts) (join_digits parts (map (digits (sizes parts)) codes))
+join_codes parts codes = code_of (sizes parts) (bound_digits (λ l digits. join_of l.order digits) parts (map (digits (sizes parts)) codes))
 
 -- the operations of the product, on codes
 unfoldable pub product : List LatticeData → Operations

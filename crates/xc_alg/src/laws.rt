@@ -5,6 +5,7 @@ ghost use Rattle.xc_alg.specs.Laws.{MeetIsMonotone, JoinIsMonotone, MeetWithTop,
 ghost use Rattle.xc_alg.specs.Laws.{MeetDistributes, JoinDistributes};
 ghost use Rattle.xc_alg.specs.Laws.{NegationIsInvolution, NegationOfMeet, NegationOfJoin, NegationOfBottom, NegationOfTop};
 ghost use Rattle.xc_alg.specs.Laws.{MetAreMeets, JoinedAreJoins, MeetsAreUnique, JoinsAreUnique};
+ghost use Rattle.xc_alg.specs.Laws.{ProductsAreAlgebras, DigitwiseMeets, DigitwiseJoins};
 
 /// A code below the total stands for one row of digits, and a row of digits in range for one such code.
 pub fn codes_and_digits()
@@ -59,4 +60,11 @@ pub fn bounds_of_lists()
     ensures joined { JoinedAreJoins }
     ensures unique_meet { MeetsAreUnique }
     ensures unique_join { JoinsAreUnique }
+{}
+
+/// The product of lawful parts is an algebra, and the bound of a list of codes, digit by digit, is the bound of the list.
+pub fn products_are_algebras()
+    ensures laws { ProductsAreAlgebras }
+    ensures meets { DigitwiseMeets }
+    ensures joins { DigitwiseJoins }
 {}

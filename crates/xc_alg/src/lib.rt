@@ -5,4 +5,4 @@
 
 mod laws;
 
-pub use laws::{bounds_of_lists, codes_and_digits, distributive_laws, lattice_laws, monotone_laws, negation_laws};
+pub use laws::{bounds_of_lists, codes_and_digits, distributive_laws, lattice_laws, monotone_laws, negation_laws, products_are_algebras};
