@@ -1,5 +1,6 @@
 pub mod Codes
-pub mod Algebra
+pub mod AlgebraLaws
 pub mod Pairs
 pub mod Parts
 pub mod Products
+pub mod Tables

@@ -6,7 +6,7 @@ use Rattle.xc_theory.specs.Lattices.{LatticeData, IsLawful, size, below, meet, j
 use Rattle.xc_theory.proofs.Bounds.{meets_are_found, joins_are_found, no_other_meets, no_other_joins, meets_are_unique, joins_are_unique}
 use Rattle.xc_alg.specs.Operations.{Operations, IsAlgebra}
 use Rattle.xc_alg.specs.Bounds.{AreElements, IsMeetOf, IsJoinOf, met, joined}
-use Rattle.xc_alg.proofs.Algebra.{met_are_meets, joined_are_joins}
+use Rattle.xc_alg.proofs.AlgebraLaws.{met_are_meets, joined_are_joins}
 
 abbrev pub single : LatticeData → Operations
 single l = record { size = size l; below = below l; meet = meet l; join = join l; negation = negation l; bottom = bottom l; top = top l }

@@ -1,4 +1,4 @@
-use Rattle.xc_alg.proofs.Algebra.{joined_are_joins, joins_are_unique, meets_are_unique, met_are_meets}
+use Rattle.xc_alg.proofs.AlgebraLaws.{joined_are_joins, joins_are_unique, meets_are_unique, met_are_meets}
 use Rattle.xc_alg.proofs.laws.bounds_of_lists.Goals as goal
 
 pub returns-clause-met : goal.returns-clause-met

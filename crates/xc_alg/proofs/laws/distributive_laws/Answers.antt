@@ -1,4 +1,4 @@
-use Rattle.xc_alg.proofs.Algebra.{join_distributes}
+use Rattle.xc_alg.proofs.AlgebraLaws.{join_distributes}
 use Rattle.xc_alg.proofs.laws.distributive_laws.Goals as goal
 
 pub returns-clause-meet_distributes : goal.returns-clause-meet_distributes

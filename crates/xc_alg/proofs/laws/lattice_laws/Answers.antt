@@ -1,4 +1,4 @@
-use Rattle.xc_alg.proofs.Algebra.{below_of_join, below_of_meet, join_absorbs, join_associative, join_commutes, join_idempotent, join_of_below, meet_absorbs, meet_associative, meet_commutes, meet_idempotent, meet_of_below}
+use Rattle.xc_alg.proofs.AlgebraLaws.{below_of_join, below_of_meet, join_absorbs, join_associative, join_commutes, join_idempotent, join_of_below, meet_absorbs, meet_associative, meet_commutes, meet_idempotent, meet_of_below}
 use Rattle.xc_alg.proofs.laws.lattice_laws.Goals as goal
 
 pub returns-clause-meet_commutes : goal.returns-clause-meet_commutes

@@ -1,4 +1,4 @@
-use Rattle.xc_alg.proofs.Algebra.{join_monotone, join_with_bottom, join_with_top, meet_monotone, meet_with_bottom, meet_with_top}
+use Rattle.xc_alg.proofs.AlgebraLaws.{join_monotone, join_with_bottom, join_with_top, meet_monotone, meet_with_bottom, meet_with_top}
 use Rattle.xc_alg.proofs.laws.monotone_laws.Goals as goal
 
 pub returns-clause-meet_is_monotone : goal.returns-clause-meet_is_monotone

@@ -1,4 +1,4 @@
-use Rattle.xc_alg.proofs.Algebra.{negation_of_bottom, negation_of_join, negation_of_meet, negation_of_top}
+use Rattle.xc_alg.proofs.AlgebraLaws.{negation_of_bottom, negation_of_join, negation_of_meet, negation_of_top}
 use Rattle.xc_alg.proofs.laws.negation_laws.Goals as goal
 
 pub returns-clause-involution : goal.returns-clause-involution

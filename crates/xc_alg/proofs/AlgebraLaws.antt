@@ -232,3 +232,10 @@ module _ (o : Operations) (laws : IsAlgebra o) where
 
   pub joins_are_unique : (codes : List ℕ) (m k : ℕ) → IsJoinOf o codes m → IsJoinOf o codes k → m ≡ k
   joins_are_unique codes m k hm hk = laws.antisymmetric m k hm.in_range hk.in_range (hm.least k hk.in_range hk.upper) (hk.least m hm.in_range hm.upper)
+
+  -- the negation of an implication
+  pub negation_of_implication : (a b n r : ℕ) → a < o.size → b < o.size → n ≡ o.negation a → r ≡ o.join n b → o.negation r ≡ o.meet a (o.negation b)
+  negation_of_implication a b n r ha hb hn hr =
+      let turned = negation_of_join (o.negation a) b (laws.negation_in_range a ha) hb in
+      let back = laws.involution a ha in
+      cc
