@@ -12,7 +12,7 @@ entry rows a b = slice_index (slice_index_or rows a []) b
 pub record AreTablesOf (l : LatticeData) (n : ℕ) (meet_rows join_rows : List (List ℕ)) (negation_row : List ℕ) : Type 0 where
   pub lawful : IsLawful l
   pub sized : size l ≡ n
-  pub several : 2 ≤ n
+  pub several : 2 ≤ size l
   pub meets : (a b : ℕ) → a < n → b < n → entry meet_rows a b ≡ meet l a b
   pub joins : (a b : ℕ) → a < n → b < n → entry join_rows a b ≡ join l a b
   pub negations : (a : ℕ) → a < n → slice_index negation_row a ≡ negation l a
