@@ -23,6 +23,7 @@ below_by_meet l lawful several a b m ha hb e =
 
 -- the lattice that tables tell is the one that they were made of
 pub lattice_in-is : (l : LatticeData) (n : ℕ) (meet_rows join_rows : List (List ℕ)) (negation_row : List ℕ) → AreTablesOf l n meet_rows join_rows negation_row → lattice_in n meet_rows negation_row ≡ l
+unfolding lattice_in
 lattice_in-is l n meet_rows join_rows negation_row h =
     let row = λ (a : ℕ). map (λ b. eqb (entry meet_rows a b) a) (range_with_len 0 n) in
     let order : l.order ≡ map row (range_with_len 0 n) =

@@ -18,7 +18,7 @@ pub record AreTablesOf (l : LatticeData) (n : ℕ) (meet_rows join_rows : List (
   pub negations : (a : ℕ) → a < n → slice_index negation_row a ≡ negation l a
 
 -- The lattice that tables tell: a is below b where a is the meet of both.
-abbrev pub lattice_in : ℕ → List (List ℕ) → List ℕ → LatticeData
+unfoldable pub lattice_in : ℕ → List (List ℕ) → List ℕ → LatticeData
 lattice_in n meet_rows negation_row =
     record {
       order = map (λ a. map (λ b. entry meet_rows a b == a) (range_with_len 0 n)) (range_with_len 0 n);
