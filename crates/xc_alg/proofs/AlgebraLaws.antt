@@ -1,9 +1,9 @@
 -- The laws of a quasi-Boolean algebra, from those of its order. What is proved of the meet holds of the join in the
 -- algebra turned upside down.
-use Rattle.std.proofs.Common.{◌≡◌, ℕ, ◌<◌, Bool, true, List, [], ◌∷◌, ◌&&◌, refl, sym, ap, subst, ◌∙◌, arith}
+use Rattle.std.proofs.Common.{◌≡◌, ℕ, ◌<◌, true, List, [], ◌∷◌, refl, ap, subst, ◌∙◌}
 use Rattle.std.proofs.lemmas.Bool.{and_parts, and_from}
 use Rattle.xc_alg.specs.Operations.{Operations, IsAlgebra}
-use Rattle.xc_alg.specs.Bounds.{AreElements, is_below_all, is_above_all, IsMeetOf, IsJoinOf, met, joined}
+use Rattle.xc_alg.specs.Bounds.{AreElements, is_below_all, IsMeetOf, IsJoinOf, met, joined}
 
 -- from an order of the meet
 module _ (o : Operations) (laws : IsAlgebra o) where
@@ -38,13 +38,13 @@ module _ (o : Operations) (laws : IsAlgebra o) where
       let right = laws.meet_in_range a (o.meet b c) ha bc in
       laws.antisymmetric (o.meet (o.meet a b) c) (o.meet a (o.meet b c)) left right
       (laws.meet_greatest a (o.meet b c) (o.meet (o.meet a b) c) ha bc left
-        (meet_through_left (o.meet a b) c a ab hc ha (laws.meet_below_left a b ha hb))
-        (laws.meet_greatest b c (o.meet (o.meet a b) c) hb hc left
-          (meet_through_left (o.meet a b) c b ab hc hb (laws.meet_below_right a b ha hb)) (laws.meet_below_right (o.meet a b) c ab hc)))
+      (meet_through_left (o.meet a b) c a ab hc ha (laws.meet_below_left a b ha hb))
+      (laws.meet_greatest b c (o.meet (o.meet a b) c) hb hc left
+      (meet_through_left (o.meet a b) c b ab hc hb (laws.meet_below_right a b ha hb)) (laws.meet_below_right (o.meet a b) c ab hc)))
       (laws.meet_greatest (o.meet a b) c (o.meet a (o.meet b c)) ab hc right
-        (laws.meet_greatest a b (o.meet a (o.meet b c)) ha hb right
-          (laws.meet_below_left a (o.meet b c) ha bc) (meet_through_right a (o.meet b c) b ha bc hb (laws.meet_below_left b c hb hc)))
-        (meet_through_right a (o.meet b c) c ha bc hc (laws.meet_below_right b c hb hc)))
+      (laws.meet_greatest a b (o.meet a (o.meet b c)) ha hb right
+      (laws.meet_below_left a (o.meet b c) ha bc) (meet_through_right a (o.meet b c) b ha bc hb (laws.meet_below_left b c hb hc)))
+      (meet_through_right a (o.meet b c) c ha bc hc (laws.meet_below_right b c hb hc)))
 
   pub meet_absorbs : (a b : ℕ) → a < o.size → b < o.size → o.meet a (o.join a b) ≡ a
   meet_absorbs a b ha hb = meet_of_below a (o.join a b) ha (laws.join_in_range a b ha hb) (laws.join_above_left a b ha hb)
@@ -73,8 +73,8 @@ module _ (o : Operations) (laws : IsAlgebra o) where
       let either = laws.join_in_range (o.negation a) (o.negation b) na nb in
       turned (o.join (o.negation a) (o.negation b)) (o.meet a b) either (laws.meet_in_range a b ha hb)
       (laws.meet_greatest a b (o.negation (o.join (o.negation a) (o.negation b))) ha hb (laws.negation_in_range (o.join (o.negation a) (o.negation b)) either)
-        (turned a (o.join (o.negation a) (o.negation b)) ha either (laws.join_above_left (o.negation a) (o.negation b) na nb))
-        (turned b (o.join (o.negation a) (o.negation b)) hb either (laws.join_above_right (o.negation a) (o.negation b) na nb)))
+      (turned a (o.join (o.negation a) (o.negation b)) ha either (laws.join_above_left (o.negation a) (o.negation b) na nb))
+      (turned b (o.join (o.negation a) (o.negation b)) hb either (laws.join_above_right (o.negation a) (o.negation b) na nb)))
 
   pub negation_of_meet : (a b : ℕ) → a < o.size → b < o.size → o.negation (o.meet a b) ≡ o.join (o.negation a) (o.negation b)
   negation_of_meet a b ha hb =
@@ -85,7 +85,7 @@ module _ (o : Operations) (laws : IsAlgebra o) where
       (laws.negation_in_range (o.meet a b) both) (laws.join_in_range (o.negation a) (o.negation b) na nb)
       (negation_of_meet_below a b ha hb)
       (laws.join_least (o.negation a) (o.negation b) (o.negation (o.meet a b)) na nb (laws.negation_in_range (o.meet a b) both)
-        (laws.antitone (o.meet a b) a both ha (laws.meet_below_left a b ha hb)) (laws.antitone (o.meet a b) b both hb (laws.meet_below_right a b ha hb)))
+      (laws.antitone (o.meet a b) a both ha (laws.meet_below_left a b ha hb)) (laws.antitone (o.meet a b) b both hb (laws.meet_below_right a b ha hb)))
 
   pub negation_of_bottom : o.negation o.bottom ≡ o.top
   negation_of_bottom =
@@ -94,7 +94,7 @@ module _ (o : Operations) (laws : IsAlgebra o) where
       laws.antisymmetric (o.negation o.bottom) o.top up laws.top_in_range
       (laws.top_above (o.negation o.bottom) up)
       (subst (λ (x : ℕ). o.below x (o.negation o.bottom) ≡ true) (laws.involution o.top laws.top_in_range)
-        (laws.antitone o.bottom (o.negation o.top) laws.bottom_in_range down (laws.bottom_below (o.negation o.top) down)))
+      (laws.antitone o.bottom (o.negation o.top) laws.bottom_in_range down (laws.bottom_below (o.negation o.top) down)))
 
   -- the other distributive law
   join_below_meet : (a b c : ℕ) → a < o.size → b < o.size → c < o.size → o.below (o.join a (o.meet b c)) (o.meet (o.join a b) (o.join a c)) ≡ true
@@ -106,8 +106,8 @@ module _ (o : Operations) (laws : IsAlgebra o) where
       laws.join_least a (o.meet b c) (o.meet (o.join a b) (o.join a c)) ha bc both
       (laws.meet_greatest (o.join a b) (o.join a c) a ab ac ha (laws.join_above_left a b ha hb) (laws.join_above_left a c ha hc))
       (laws.meet_greatest (o.join a b) (o.join a c) (o.meet b c) ab ac bc
-        (meet_through_left b c (o.join a b) hb hc ab (laws.join_above_right a b ha hb))
-        (meet_through_right b c (o.join a c) hb hc ac (laws.join_above_right a c ha hc)))
+      (meet_through_left b c (o.join a b) hb hc ab (laws.join_above_right a b ha hb))
+      (meet_through_right b c (o.join a c) hb hc ac (laws.join_above_right a c ha hc)))
 
   meet_below_join : (a b c : ℕ) → a < o.size → b < o.size → c < o.size → o.below (o.meet (o.join a b) (o.join a c)) (o.join a (o.meet b c)) ≡ true
   meet_below_join a b c ha hb hc =
@@ -120,11 +120,11 @@ module _ (o : Operations) (laws : IsAlgebra o) where
       let right = laws.meet_in_range (o.join a b) c ab hc in
       rw (laws.distributive (o.join a b) a c ab ha hc)
       (laws.join_least (o.meet (o.join a b) a) (o.meet (o.join a b) c) (o.join a (o.meet b c)) left right all
-        (meet_through_right (o.join a b) a (o.join a (o.meet b c)) ab ha all a_below)
-        (rw with_c
-          (laws.join_least (o.meet c a) (o.meet c b) (o.join a (o.meet b c)) (laws.meet_in_range c a hc ha) (laws.meet_in_range c b hc hb) all
-            (meet_through_right c a (o.join a (o.meet b c)) hc ha all a_below)
-            (rw (meet_commutes c b hc hb) (laws.join_above_right a (o.meet b c) ha bc)))))
+      (meet_through_right (o.join a b) a (o.join a (o.meet b c)) ab ha all a_below)
+      (rw with_c
+      (laws.join_least (o.meet c a) (o.meet c b) (o.join a (o.meet b c)) (laws.meet_in_range c a hc ha) (laws.meet_in_range c b hc hb) all
+      (meet_through_right c a (o.join a (o.meet b c)) hc ha all a_below)
+      (rw (meet_commutes c b hc hb) (laws.join_above_right a (o.meet b c) ha bc)))))
 
   pub join_distributes : (a b c : ℕ) → a < o.size → b < o.size → c < o.size → o.join a (o.meet b c) ≡ o.meet (o.join a b) (o.join a c)
   join_distributes a b c ha hb hc =
@@ -148,11 +148,11 @@ module _ (o : Operations) (laws : IsAlgebra o) where
       record {
         in_range = within;
         lower =
-          and_from (o.below (o.meet code (met o codes)) code) (is_below_all o codes (o.meet code (met o codes))) (laws.meet_below_left code (met o codes) hs.0 rest.in_range)
-          (below_all_through codes (o.meet code (met o codes)) (met o codes) hs.1 within rest.in_range (laws.meet_below_right code (met o codes) hs.0 rest.in_range) rest.lower);
+            and_from (o.below (o.meet code (met o codes)) code) (is_below_all o codes (o.meet code (met o codes))) (laws.meet_below_left code (met o codes) hs.0 rest.in_range)
+            (below_all_through codes (o.meet code (met o codes)) (met o codes) hs.1 within rest.in_range (laws.meet_below_right code (met o codes) hs.0 rest.in_range) rest.lower);
         greatest = λ a ha h.
-          let both = and_parts (o.below a code) (is_below_all o codes a) h in
-          laws.meet_greatest code (met o codes) a hs.0 rest.in_range ha both.0 (rest.greatest a ha both.1)
+            let both = and_parts (o.below a code) (is_below_all o codes a) h in
+            laws.meet_greatest code (met o codes) a hs.0 rest.in_range ha both.0 (rest.greatest a ha both.1);
       }
 
   pub meets_are_unique : (codes : List ℕ) (m k : ℕ) → IsMeetOf o codes m → IsMeetOf o codes k → m ≡ k
@@ -183,7 +183,7 @@ dual_laws o laws =
       bottom_in_range = laws.top_in_range;
       bottom_below = laws.top_above;
       top_in_range = laws.bottom_in_range;
-      top_above = laws.bottom_below
+      top_above = laws.bottom_below;
     }
 
 module _ (o : Operations) (laws : IsAlgebra o) where

@@ -1,8 +1,8 @@
 -- Codes and rows of digits stand for each other.
-use Rattle.std.proofs.Common.{◌≡◌, ℕ, zero, suc, ◌+◌, ◌*◌, ◌/◌, ◌%◌, ◌<◌, List, [], ◌∷◌, refl, sym, ap, ◌∙◌, arith}
+use Rattle.std.proofs.Common.{ℕ, zero, suc, ◌*◌, ◌%◌, ◌<◌, List, [], ◌∷◌, refl, ap, arith}
 use Rattle.std.proofs.lemmas.Nat.{div-mul-add, mod-mul-add, mul-add-lt, div-add-mod', div_below, mod_below}
 use Rattle.std.proofs.Math.Nat.{mul_comm}
-use Rattle.xc_alg.specs.Codes.{total, digits, code_of, AreDigits}
+use Rattle.xc_alg.specs.Codes.{total, code_of}
 use Rattle.xc_alg.specs.Laws.{DigitsAreInRange, CodesAreInRange, DigitsOfCodes, CodesOfDigits}
 
 -- a number below a product is zero in no factor

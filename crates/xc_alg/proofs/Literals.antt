@@ -1,9 +1,9 @@
 -- Tables that are written out: a test that computes, and that they are the tables of a lattice where it passes.
-use Rattle.std.proofs.Common.{◌≡◌, ◌==◌, ℕ, ◌+◌, ◌<◌, ◌≤◌, Bool, true, false, ◌&&◌, ◌||◌, not, eqb, ltb, List, [], ◌∷◌, length, get_or, map, refl, sym, ap, subst, ◌∙◌, arith}
-use Rattle.std.specs.List.{list_all, range_with_len, slice_index_or}
-use Rattle.std.proofs.lemmas.Bool.{and_parts, eqb-true, ltb-true}
+use Rattle.std.proofs.Common.{◌≡◌, ℕ, ◌<◌, ◌≤◌, Bool, true, ◌||◌, not, eqb, ltb, List, [], ◌∷◌, length, get_or, map, refl, sym, ap, ◌∙◌, arith}
+use Rattle.std.specs.List.{list_all, range_with_len}
+use Rattle.std.proofs.lemmas.Bool.{eqb-true, ltb-true}
 use Rattle.std.proofs.lemmas.List.FromFn.{length-map-range_with_len, get_or-map-range_with_len}
-use Rattle.xc_theory.specs.Orders.{IsSquare, IsAntisymmetric}
+use Rattle.xc_theory.specs.Orders.{IsAntisymmetric}
 use Rattle.xc_theory.specs.Bounds.{IsMeet, IsJoin, is_meet, is_join}
 use Rattle.xc_theory.specs.Lattices.{LatticeData, IsLawful, IsWellShaped, size, below, meet, join, negation}
 use Rattle.xc_theory.proofs.Ranges.{all_range_at}
@@ -75,7 +75,7 @@ module _ (n : ℕ) (meets joins : List (List ℕ)) (negations : List ℕ) (h : T
   antisymmetric a b ha hb x y =
       eqb-true a b
       (both_implied (below (lattice_in n meets negations) a b) (below (lattice_in n meets negations) b a) (eqb a b)
-        (two-at n (λ a b. not (below (lattice_in n meets negations) a b) || (not (below (lattice_in n meets negations) b a) || eqb a b)) a b h.antisymmetric ha hb) x y)
+      (two-at n (λ a b. not (below (lattice_in n meets negations) a b) || (not (below (lattice_in n meets negations) b a) || eqb a b)) a b h.antisymmetric ha hb) x y)
 
   meet_lt : (a b : ℕ) → a < n → b < n → entry meets a b < n
   meet_lt a b ha hb = ltb-true (entry meets a b) n (two-at n (λ a b. ltb (entry meets a b) n) a b h.meet_range ha hb)
@@ -110,14 +110,14 @@ module _ (n : ℕ) (meets joins : List (List ℕ)) (negations : List ℕ) (h : T
       (join_of-is_join (lattice_in n meets negations).order (a ∷ b ∷ []) (entry joins a b) (entry_joins a b ha hb))
 
   distributes : (a b c : ℕ) → a < n → b < n → c < n
-    → meet (lattice_in n meets negations) a (join (lattice_in n meets negations) b c) ≡ join (lattice_in n meets negations) (meet (lattice_in n meets negations) a b) (meet (lattice_in n meets negations) a c)
+      → meet (lattice_in n meets negations) a (join (lattice_in n meets negations) b c) ≡ join (lattice_in n meets negations) (meet (lattice_in n meets negations) a b) (meet (lattice_in n meets negations) a c)
   distributes a b c ha hb hc =
       let joined = join_is b c hb hc in
       let left = meet_is a b ha hb in
       let right = meet_is a c ha hc in
       rw (sym joined, sym left, sym right, sym (meet_is a (entry joins b c) ha (join_lt b c hb hc)), sym (join_is (entry meets a b) (entry meets a c) (meet_lt a b ha hb) (meet_lt a c ha hc)))
       (eqb-true (entry meets a (entry joins b c)) (entry joins (entry meets a b) (entry meets a c))
-        (three-at n (λ a b c. eqb (entry meets a (entry joins b c)) (entry joins (entry meets a b) (entry meets a c))) a b c h.distributive ha hb hc))
+      (three-at n (λ a b c. eqb (entry meets a (entry joins b c)) (entry joins (entry meets a b) (entry meets a c))) a b c h.distributive ha hb hc))
 
   involutes : (a : ℕ) → a < n → negation (lattice_in n meets negations) (negation (lattice_in n meets negations) a) ≡ a
   involutes a ha =
@@ -125,11 +125,11 @@ module _ (n : ℕ) (meets joins : List (List ℕ)) (negations : List ℕ) (h : T
       (eqb-true (get_or negations (get_or negations a 0) 0) a (one-at n (λ a. eqb (get_or negations (get_or negations a 0) 0) a) a h.involution ha))
 
   turns : (a b : ℕ) → a < n → b < n → below (lattice_in n meets negations) a b ≡ true
-    → below (lattice_in n meets negations) (negation (lattice_in n meets negations) b) (negation (lattice_in n meets negations) a) ≡ true
+      → below (lattice_in n meets negations) (negation (lattice_in n meets negations) b) (negation (lattice_in n meets negations) a) ≡ true
   turns a b ha hb x =
       rw (negation_in n meets negations a ha, negation_in n meets negations b hb)
       (implied (below (lattice_in n meets negations) a b) (below (lattice_in n meets negations) (get_or negations b 0) (get_or negations a 0))
-        (two-at n (λ a b. not (below (lattice_in n meets negations) a b) || below (lattice_in n meets negations) (get_or negations b 0) (get_or negations a 0)) a b h.antitone ha hb) x)
+      (two-at n (λ a b. not (below (lattice_in n meets negations) a b) || below (lattice_in n meets negations) (get_or negations b 0) (get_or negations a 0)) a b h.antitone ha hb) x)
 
   shaped : IsWellShaped (lattice_in n meets negations)
   shaped =
@@ -137,7 +137,7 @@ module _ (n : ℕ) (meets joins : List (List ℕ)) (negations : List ℕ) (h : T
       record {
         square = record { rows = refl; columns = λ a ha. columns_in n meets negations a (omega arith) ∙ sym sized };
         negations = negations_in n meets negations ∙ sym sized;
-        in_range = λ a ha. let ha' : a < n = omega arith in rw (negation_in n meets negations a ha') (omega (arith, negation_lt a ha'))
+        in_range = λ a ha. let ha' : a < n = omega arith in rw (negation_in n meets negations a ha') (omega (arith, negation_lt a ha'));
       }
 
   lawful : IsLawful (lattice_in n meets negations)
@@ -147,28 +147,29 @@ module _ (n : ℕ) (meets joins : List (List ℕ)) (negations : List ℕ) (h : T
         shape = shaped;
         reflexive = λ a ha. one-at n (λ a. below (lattice_in n meets negations) a a) a h.reflexive (omega arith);
         transitive = λ a b c ha hb hc x y.
-          both_implied (below (lattice_in n meets negations) a b) (below (lattice_in n meets negations) b c) (below (lattice_in n meets negations) a c)
-          (three-at n (λ a b c. not (below (lattice_in n meets negations) a b) || (not (below (lattice_in n meets negations) b c) || below (lattice_in n meets negations) a c))
+            both_implied (below (lattice_in n meets negations) a b) (below (lattice_in n meets negations) b c) (below (lattice_in n meets negations) a c)
+            (three-at n (λ a b c. not (below (lattice_in n meets negations) a b) || (not (below (lattice_in n meets negations) b c) || below (lattice_in n meets negations) a c))
             a b c h.transitive (omega arith) (omega arith) (omega arith)) x y;
         antisymmetric = anti;
         meets = λ a b ha hb.
-          meet_of-is_meet (lattice_in n meets negations).order (a ∷ b ∷ []) (entry meets a b) (entry_meets a b (omega arith) (omega arith));
+            meet_of-is_meet (lattice_in n meets negations).order (a ∷ b ∷ []) (entry meets a b) (entry_meets a b (omega arith) (omega arith));
         joins = λ a b ha hb.
-          join_of-is_join (lattice_in n meets negations).order (a ∷ b ∷ []) (entry joins a b) (entry_joins a b (omega arith) (omega arith));
+            join_of-is_join (lattice_in n meets negations).order (a ∷ b ∷ []) (entry joins a b) (entry_joins a b (omega arith) (omega arith));
         distributive = λ a b c ha hb hc. distributes a b c (omega arith) (omega arith) (omega arith);
         involution = λ a ha. involutes a (omega arith);
-        antitone = λ a b ha hb. turns a b (omega arith) (omega arith)
+        antitone = λ a b ha hb. turns a b (omega arith) (omega arith);
       }
 
   -- tables that pass are those of a lattice
   pub tables_from_tests : (l : LatticeData) × AreTablesOf l n meets joins negations
-  tables_from_tests =
-      (lattice_in n meets negations,
-        record {
-          lawful = lawful;
-          sized = size_in n meets negations;
-          several = omega (arith, size_in n meets negations, h.several);
-          meets = meet_is;
-          joins = join_is;
-          negations = λ a ha. sym (negation_in n meets negations a ha)
-        })
+  tables_from_tests = (
+    lattice_in n meets negations,
+    record {
+      lawful = lawful;
+      sized = size_in n meets negations;
+      several = omega (arith, size_in n meets negations, h.several);
+      meets = meet_is;
+      joins = join_is;
+      negations = λ a ha. sym (negation_in n meets negations a ha);
+    },
+  )

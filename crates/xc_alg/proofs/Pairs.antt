@@ -1,5 +1,5 @@
 -- The algebra of two digits, the high one in p and the low one in q.
-use Rattle.std.proofs.Common.{◌≡◌, ℕ, ◌+◌, ◌*◌, ◌/◌, ◌%◌, ◌<◌, Bool, true, ◌&&◌, refl, sym, ap, subst, ◌∙◌, arith}
+use Rattle.std.proofs.Common.{◌≡◌, ℕ, ◌+◌, ◌*◌, ◌/◌, ◌%◌, ◌<◌, true, ◌&&◌, sym, ap, ◌∙◌, arith}
 use Rattle.std.proofs.lemmas.Bool.{and_parts, and_from}
 use Rattle.std.proofs.lemmas.Nat.{div-mul-add, mod-mul-add, mul-add-lt, div-add-mod', div_below, mod_below}
 use Rattle.std.proofs.Math.Nat.{mul_comm}
@@ -14,7 +14,7 @@ pair p q =
       join = λ a b. p.join (a / q.size) (b / q.size) * q.size + q.join (a % q.size) (b % q.size);
       negation = λ a. p.negation (a / q.size) * q.size + q.negation (a % q.size);
       bottom = p.bottom * q.size + q.bottom;
-      top = p.top * q.size + q.top
+      top = p.top * q.size + q.top;
     }
 
 -- a number in two digits at a weight w
@@ -62,21 +62,21 @@ module _ (p q : Operations) (lp : IsAlgebra p) (lq : IsAlgebra q) where
       (lq.join_in_range (b % q.size) (c % q.size) (low b) (low c))
       (two_digits q.size (p.meet (a / q.size) (b / q.size)) (q.meet (a % q.size) (b % q.size))
       (λ s t. p.meet (a / q.size) (p.join (b / q.size) (c / q.size)) * q.size + q.meet (a % q.size) (q.join (b % q.size) (c % q.size))
-        ≡ p.join s ((pair p q).meet a c / q.size) * q.size + q.join t ((pair p q).meet a c % q.size))
+      ≡ p.join s ((pair p q).meet a c / q.size) * q.size + q.join t ((pair p q).meet a c % q.size))
       (lq.meet_in_range (a % q.size) (b % q.size) (low a) (low b))
       (two_digits q.size (p.meet (a / q.size) (c / q.size)) (q.meet (a % q.size) (c % q.size))
       (λ s t. p.meet (a / q.size) (p.join (b / q.size) (c / q.size)) * q.size + q.meet (a % q.size) (q.join (b % q.size) (c % q.size))
-        ≡ p.join (p.meet (a / q.size) (b / q.size)) s * q.size + q.join (q.meet (a % q.size) (b % q.size)) t)
+      ≡ p.join (p.meet (a / q.size) (b / q.size)) s * q.size + q.join (q.meet (a % q.size) (b % q.size)) t)
       (lq.meet_in_range (a % q.size) (c % q.size) (low a) (low c))
       (ap (λ (x : ℕ). x * q.size + q.meet (a % q.size) (q.join (b % q.size) (c % q.size))) (lp.distributive (a / q.size) (b / q.size) (c / q.size) (high a ha) (high b hb) (high c hc))
-        ∙ ap (λ (x : ℕ). p.join (p.meet (a / q.size) (b / q.size)) (p.meet (a / q.size) (c / q.size)) * q.size + x) (lq.distributive (a % q.size) (b % q.size) (c % q.size) (low a) (low b) (low c)))))
+      ∙ ap (λ (x : ℕ). p.join (p.meet (a / q.size) (b / q.size)) (p.meet (a / q.size) (c / q.size)) * q.size + x) (lq.distributive (a % q.size) (b % q.size) (c % q.size) (low a) (low b) (low c)))))
 
   pair_involution : (a : ℕ) → a < p.size * q.size → (pair p q).negation ((pair p q).negation a) ≡ a
   pair_involution a ha =
       two_digits q.size (p.negation (a / q.size)) (q.negation (a % q.size)) (λ s t. p.negation s * q.size + q.negation t ≡ a)
       (lq.negation_in_range (a % q.size) (low a))
       (ap (λ (x : ℕ). x * q.size + q.negation (q.negation (a % q.size))) (lp.involution (a / q.size) (high a ha))
-        ∙ (ap (λ (x : ℕ). a / q.size * q.size + x) (lq.involution (a % q.size) (low a)) ∙ div-add-mod' a q.size))
+      ∙ (ap (λ (x : ℕ). a / q.size * q.size + x) (lq.involution (a % q.size) (low a)) ∙ div-add-mod' a q.size))
 
   pair_antisymmetric : (a b : ℕ) → a < p.size * q.size → b < p.size * q.size → (pair p q).below a b ≡ true → (pair p q).below b a ≡ true → a ≡ b
   pair_antisymmetric a b ha hb h k =
@@ -122,30 +122,30 @@ module _ (p q : Operations) (lp : IsAlgebra p) (lq : IsAlgebra q) where
         transitive = pair_transitive;
         antisymmetric = pair_antisymmetric;
         meet_in_range = λ a b ha hb.
-          place (p.meet (a / q.size) (b / q.size)) (q.meet (a % q.size) (b % q.size)) (lp.meet_in_range (a / q.size) (b / q.size) (high a ha) (high b hb)) (lq.meet_in_range (a % q.size) (b % q.size) (low a) (low b));
+            place (p.meet (a / q.size) (b / q.size)) (q.meet (a % q.size) (b % q.size)) (lp.meet_in_range (a / q.size) (b / q.size) (high a ha) (high b hb)) (lq.meet_in_range (a % q.size) (b % q.size) (low a) (low b));
         meet_below_left = λ a b ha hb.
-          place_below (p.meet (a / q.size) (b / q.size)) (q.meet (a % q.size) (b % q.size)) a (lq.meet_in_range (a % q.size) (b % q.size) (low a) (low b))
-          (lp.meet_below_left (a / q.size) (b / q.size) (high a ha) (high b hb)) (lq.meet_below_left (a % q.size) (b % q.size) (low a) (low b));
+            place_below (p.meet (a / q.size) (b / q.size)) (q.meet (a % q.size) (b % q.size)) a (lq.meet_in_range (a % q.size) (b % q.size) (low a) (low b))
+            (lp.meet_below_left (a / q.size) (b / q.size) (high a ha) (high b hb)) (lq.meet_below_left (a % q.size) (b % q.size) (low a) (low b));
         meet_below_right = λ a b ha hb.
-          place_below (p.meet (a / q.size) (b / q.size)) (q.meet (a % q.size) (b % q.size)) b (lq.meet_in_range (a % q.size) (b % q.size) (low a) (low b))
-          (lp.meet_below_right (a / q.size) (b / q.size) (high a ha) (high b hb)) (lq.meet_below_right (a % q.size) (b % q.size) (low a) (low b));
+            place_below (p.meet (a / q.size) (b / q.size)) (q.meet (a % q.size) (b % q.size)) b (lq.meet_in_range (a % q.size) (b % q.size) (low a) (low b))
+            (lp.meet_below_right (a / q.size) (b / q.size) (high a ha) (high b hb)) (lq.meet_below_right (a % q.size) (b % q.size) (low a) (low b));
         meet_greatest = pair_meet_greatest;
         join_in_range = λ a b ha hb.
-          place (p.join (a / q.size) (b / q.size)) (q.join (a % q.size) (b % q.size)) (lp.join_in_range (a / q.size) (b / q.size) (high a ha) (high b hb)) (lq.join_in_range (a % q.size) (b % q.size) (low a) (low b));
+            place (p.join (a / q.size) (b / q.size)) (q.join (a % q.size) (b % q.size)) (lp.join_in_range (a / q.size) (b / q.size) (high a ha) (high b hb)) (lq.join_in_range (a % q.size) (b % q.size) (low a) (low b));
         join_above_left = λ a b ha hb.
-          below_place a (p.join (a / q.size) (b / q.size)) (q.join (a % q.size) (b % q.size)) (lq.join_in_range (a % q.size) (b % q.size) (low a) (low b))
-          (lp.join_above_left (a / q.size) (b / q.size) (high a ha) (high b hb)) (lq.join_above_left (a % q.size) (b % q.size) (low a) (low b));
+            below_place a (p.join (a / q.size) (b / q.size)) (q.join (a % q.size) (b % q.size)) (lq.join_in_range (a % q.size) (b % q.size) (low a) (low b))
+            (lp.join_above_left (a / q.size) (b / q.size) (high a ha) (high b hb)) (lq.join_above_left (a % q.size) (b % q.size) (low a) (low b));
         join_above_right = λ a b ha hb.
-          below_place b (p.join (a / q.size) (b / q.size)) (q.join (a % q.size) (b % q.size)) (lq.join_in_range (a % q.size) (b % q.size) (low a) (low b))
-          (lp.join_above_right (a / q.size) (b / q.size) (high a ha) (high b hb)) (lq.join_above_right (a % q.size) (b % q.size) (low a) (low b));
+            below_place b (p.join (a / q.size) (b / q.size)) (q.join (a % q.size) (b % q.size)) (lq.join_in_range (a % q.size) (b % q.size) (low a) (low b))
+            (lp.join_above_right (a / q.size) (b / q.size) (high a ha) (high b hb)) (lq.join_above_right (a % q.size) (b % q.size) (low a) (low b));
         join_least = pair_join_least;
         distributive = pair_distributive;
         negation_in_range = λ a ha.
-          place (p.negation (a / q.size)) (q.negation (a % q.size)) (lp.negation_in_range (a / q.size) (high a ha)) (lq.negation_in_range (a % q.size) (low a));
+            place (p.negation (a / q.size)) (q.negation (a % q.size)) (lp.negation_in_range (a / q.size) (high a ha)) (lq.negation_in_range (a % q.size) (low a));
         involution = pair_involution;
         antitone = pair_antitone;
         bottom_in_range = place p.bottom q.bottom lp.bottom_in_range lq.bottom_in_range;
         bottom_below = λ a ha. place_below p.bottom q.bottom a lq.bottom_in_range (lp.bottom_below (a / q.size) (high a ha)) (lq.bottom_below (a % q.size) (low a));
         top_in_range = place p.top q.top lp.top_in_range lq.top_in_range;
-        top_above = λ a ha. below_place a p.top q.top lq.top_in_range (lp.top_above (a / q.size) (high a ha)) (lq.top_above (a % q.size) (low a))
+        top_above = λ a ha. below_place a p.top q.top lq.top_in_range (lp.top_above (a / q.size) (high a ha)) (lq.top_above (a % q.size) (low a));
       }

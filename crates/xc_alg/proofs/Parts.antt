@@ -1,11 +1,11 @@
 -- One part as an algebra, and its bounds of lists.
-use Rattle.std.proofs.Common.{◌≡◌, ℕ, zero, suc, ◌+◌, ◌<◌, ◌≤◌, Bool, true, ◌&&◌, List, [], ◌∷◌, Option, Some, None, unwrap_or, refl, sym, ap, subst, ◌∙◌, inl, inr, arith}
+use Rattle.std.proofs.Common.{◌≡◌, ℕ, zero, suc, ◌<◌, ◌≤◌, Bool, true, ◌&&◌, List, [], ◌∷◌, Option, Some, None, unwrap_or, refl, sym, ap, subst, ◌∙◌, inl, inr, arith}
 use Rattle.std.proofs.lemmas.Bool.{and_parts, and_from, cases_eq}
 use Rattle.xc_theory.specs.Bounds.{IsMeet, IsJoin, first_meet, first_join, meet_of, join_of}
 use Rattle.xc_theory.specs.Lattices.{LatticeData, IsLawful, size, below, meet, join, negation, bottom, top}
 use Rattle.xc_theory.proofs.Bounds.{meets_are_found, joins_are_found, no_other_meets, no_other_joins, meets_are_unique, joins_are_unique}
 use Rattle.xc_alg.specs.Operations.{Operations, IsAlgebra}
-use Rattle.xc_alg.specs.Bounds.{AreElements, IsMeetOf, IsJoinOf, met, joined}
+use Rattle.xc_alg.specs.Bounds.{AreElements, met, joined}
 use Rattle.xc_alg.proofs.AlgebraLaws.{met_are_meets, joined_are_joins}
 
 abbrev pub single : LatticeData → Operations
@@ -41,12 +41,15 @@ module _ (l : LatticeData) (lawful : IsLawful l) (several : 2 ≤ size l) where
       let rest = above_first n (omega arith) in
       let last : n < size l = omega arith in
       let bound = lawful.joins rest.0 n rest.1 last in
-      let both = both_parts (below l rest.0 (join l rest.0 n)) (below l n (join l rest.0 n)) bound.upper in
-      (join l rest.0 n, bound.in_range, λ a ha.
-        elim (cases_eq a n) [
-          | inl same ↦ subst (λ (x : ℕ). below l x (join l rest.0 n) ≡ true) (sym same) both.1
-          | inr apart ↦ lawful.transitive a rest.0 (join l rest.0 n) (omega arith) rest.1 bound.in_range (rest.2 a (omega arith)) both.0
-        ])
+      let both = both_parts (below l rest.0 (join l rest.0 n)) (below l n (join l rest.0 n)) bound.upper in (
+        join l rest.0 n,
+        bound.in_range,
+        λ a ha.
+            elim (cases_eq a n) [
+              | inl same ↦ subst (λ (x : ℕ). below l x (join l rest.0 n) ≡ true) (sym same) both.1
+              | inr apart ↦ lawful.transitive a rest.0 (join l rest.0 n) (omega arith) rest.1 bound.in_range (rest.2 a (omega arith)) both.0
+            ],
+      )
 
   below_first : (n : ℕ) → n ≤ size l → (u : ℕ) × (u < size l) × ((a : ℕ) → a < n → below l u a ≡ true)
   below_first zero h = (0, omega arith, λ a ha. absurd (omega arith))
@@ -54,12 +57,15 @@ module _ (l : LatticeData) (lawful : IsLawful l) (several : 2 ≤ size l) where
       let rest = below_first n (omega arith) in
       let last : n < size l = omega arith in
       let bound = lawful.meets rest.0 n rest.1 last in
-      let both = both_parts (below l (meet l rest.0 n) rest.0) (below l (meet l rest.0 n) n) bound.lower in
-      (meet l rest.0 n, bound.in_range, λ a ha.
-        elim (cases_eq a n) [
-          | inl same ↦ subst (λ (x : ℕ). below l (meet l rest.0 n) x ≡ true) (sym same) both.1
-          | inr apart ↦ lawful.transitive (meet l rest.0 n) rest.0 a bound.in_range rest.1 (omega arith) both.0 (rest.2 a (omega arith))
-        ])
+      let both = both_parts (below l (meet l rest.0 n) rest.0) (below l (meet l rest.0 n) n) bound.lower in (
+        meet l rest.0 n,
+        bound.in_range,
+        λ a ha.
+            elim (cases_eq a n) [
+              | inl same ↦ subst (λ (x : ℕ). below l (meet l rest.0 n) x ≡ true) (sym same) both.1
+              | inr apart ↦ lawful.transitive (meet l rest.0 n) rest.0 a bound.in_range rest.1 (omega arith) both.0 (rest.2 a (omega arith))
+            ],
+      )
 
   top_is_meet : IsMeet l.order [] (top l)
   top_is_meet =
@@ -92,7 +98,7 @@ module _ (l : LatticeData) (lawful : IsLawful l) (several : 2 ≤ size l) where
         bottom_in_range = bottom_is_join.in_range;
         bottom_below = λ a ha. bottom_is_join.least a ha refl;
         top_in_range = top_is_meet.in_range;
-        top_above = λ a ha. top_is_meet.greatest a ha refl
+        top_above = λ a ha. top_is_meet.greatest a ha refl;
       }
 
   -- the bound of a list in the part is what its elements meet to, or join to, one after the other

@@ -1,11 +1,11 @@
 -- The product of lawful parts is an algebra, and its bounds of lists go digit by digit.
-use Rattle.std.proofs.Common.{◌≡◌, ℕ, zero, suc, ◌+◌, ◌*◌, ◌<◌, ◌≤◌, Bool, true, List, [], ◌∷◌, map, drop, refl, sym, ap, subst, ◌∙◌, arith}
+use Rattle.std.proofs.Common.{◌≡◌, ℕ, ◌<◌, ◌≤◌, List, [], ◌∷◌, map, refl, sym, ap, subst, ◌∙◌, arith}
 use Rattle.xc_theory.specs.Bounds.{meet_of, join_of}
 use Rattle.xc_theory.specs.Lattices.{LatticeData, IsLawful, size}
 use Rattle.xc_theory.proofs.Bounds.{meet_of_lt, join_of_lt}
 use Rattle.xc_alg.specs.Codes.{total, digits, code_of, AreDigits}
 use Rattle.xc_alg.specs.Operations.{Operations, IsAlgebra}
-use Rattle.xc_alg.specs.Products.{product, AreLawful, sizes, firsts, rests, bound_digits, meet_codes, join_codes}
+use Rattle.xc_alg.specs.Products.{product, AreLawful, sizes, firsts, rests, bound_digits, negation_digits, meet_codes, join_codes}
 use Rattle.xc_alg.specs.Bounds.{AreElements, met, joined}
 use Rattle.xc_alg.proofs.Codes.{digits_are_in_range, digits_of_codes}
 use Rattle.xc_alg.proofs.Pairs.{pair, pair_laws}
@@ -38,7 +38,7 @@ product_of_none =
       bottom_in_range = omega arith;
       bottom_below = λ a ha. refl;
       top_in_range = omega arith;
-      top_above = λ a ha. refl
+      top_above = λ a ha. refl;
     }
 
 pub product_laws : (parts : List LatticeData) → AreLawful parts → IsAlgebra (product parts)
@@ -68,9 +68,9 @@ digits-are_rows sizes (code ∷ codes) h = (digits_are_in_range sizes code h.0, 
 
 -- bounds digit by digit, for a bound of lists that can be taken one element after the other
 module _
-  (bound : LatticeData → List ℕ → ℕ)
-  (in_range : (l : LatticeData) → IsLawful l → 2 ≤ size l → (xs : List ℕ) → bound l xs < size l)
-  (more : (l : LatticeData) → IsLawful l → 2 ≤ size l → (x : ℕ) (xs : List ℕ) → x < size l → AreElements (size l) xs → bound l (x ∷ xs) ≡ bound l (x ∷ bound l xs ∷ [])) where
+    (bound : LatticeData → List ℕ → ℕ)
+    (in_range : (l : LatticeData) → IsLawful l → 2 ≤ size l → (xs : List ℕ) → bound l xs < size l)
+    (more : (l : LatticeData) → IsLawful l → 2 ≤ size l → (x : ℕ) (xs : List ℕ) → x < size l → AreElements (size l) xs → bound l (x ∷ xs) ≡ bound l (x ∷ bound l xs ∷ [])) where
   bound_digits-in_range : (parts : List LatticeData) (rows : List (List ℕ)) → AreLawful parts → AreDigits (sizes parts) (bound_digits bound parts rows)
   bound_digits-in_range [] rows h = tt
   bound_digits-in_range (l ∷ parts) rows h = (in_range l h.0 h.1 (firsts rows), bound_digits-in_range parts (rests rows) h.2)
@@ -84,7 +84,7 @@ module _
       ap (λ (x : ℕ). x ∷ bound_digits bound parts (row ∷ rests rows)) head ∙ ap (λ (xs : List ℕ). bound l (digit ∷ bound l (firsts rows) ∷ []) ∷ xs) tail
 
   bound_codes_more : (parts : List LatticeData) (code : ℕ) (codes : List ℕ) → AreLawful parts → AreElements (total (sizes parts)) (code ∷ codes)
-    → code_of (sizes parts) (bound_digits bound parts (map (digits (sizes parts)) (code ∷ codes)))
+      → code_of (sizes parts) (bound_digits bound parts (map (digits (sizes parts)) (code ∷ codes)))
       ≡ code_of (sizes parts) (bound_digits bound parts (map (digits (sizes parts)) (code ∷ code_of (sizes parts) (bound_digits bound parts (map (digits (sizes parts)) codes)) ∷ [])))
   bound_codes_more parts code codes h hs =
       let rows = map (digits (sizes parts)) codes in
@@ -107,3 +107,27 @@ digitwise_joins parts [] h hs = refl
 digitwise_joins parts (code ∷ codes) h hs =
     bound_codes_more (λ l xs. join_of l.order xs) (λ l lawful several xs. join_of_lt l.order xs (omega arith)) join_of_more parts code codes h hs
     ∙ ap (λ (m : ℕ). join_codes parts (code ∷ m ∷ [])) (digitwise_joins parts codes h hs.1)
+
+-- the digits of a bound are the bounds of the digits
+pub digits_of_meets : (parts : List LatticeData) (codes : List ℕ) → AreLawful parts → digits (sizes parts) (meet_codes parts codes) ≡ bound_digits (λ l row. meet_of l.order row) parts (map (digits (sizes parts)) codes)
+digits_of_meets parts codes h =
+    let rows = map (digits (sizes parts)) codes in
+    digits_of_codes (sizes parts) (bound_digits (λ l row. meet_of l.order row) parts rows)
+    (bound_digits-in_range (λ l xs. meet_of l.order xs) (λ l lawful several xs. meet_of_lt l.order xs (omega arith)) meet_of_more parts rows h)
+
+pub digits_of_joins : (parts : List LatticeData) (codes : List ℕ) → AreLawful parts → digits (sizes parts) (join_codes parts codes) ≡ bound_digits (λ l row. join_of l.order row) parts (map (digits (sizes parts)) codes)
+digits_of_joins parts codes h =
+    let rows = map (digits (sizes parts)) codes in
+    digits_of_codes (sizes parts) (bound_digits (λ l row. join_of l.order row) parts rows)
+    (bound_digits-in_range (λ l xs. join_of l.order xs) (λ l lawful several xs. join_of_lt l.order xs (omega arith)) join_of_more parts rows h)
+
+negation_digits-in_range : (parts : List LatticeData) (row : List ℕ) → AreLawful parts → AreDigits (sizes parts) row → AreDigits (sizes parts) (negation_digits parts row)
+negation_digits-in_range [] row h hs = tt
+negation_digits-in_range (l ∷ parts) [] h hs = absurd hs
+negation_digits-in_range (l ∷ parts) (digit ∷ row) h hs = (h.0.shape.in_range digit hs.0, negation_digits-in_range parts row h.2 hs.1)
+
+pub digits_of_negations : (parts : List LatticeData) (code : ℕ) → AreLawful parts → code < (product parts).size → digits (sizes parts) ((product parts).negation code) ≡ negation_digits parts (digits (sizes parts) code)
+unfolding product
+digits_of_negations parts code h within =
+    let row = digits (sizes parts) code in
+    digits_of_codes (sizes parts) (negation_digits parts row) (negation_digits-in_range parts row h (digits_are_in_range (sizes parts) code within))

@@ -1,13 +1,13 @@
 -- What tables of operations tell, and the product of one part.
-use Rattle.std.proofs.Common.{◌≡◌, ℕ, zero, suc, ◌+◌, ◌*◌, ◌/◌, ◌%◌, ◌<◌, ◌≤◌, Bool, true, false, eqb, ◌&&◌, List, [], ◌∷◌, length, get_or, map, refl, sym, ap, subst, ◌∙◌, inl, inr, arith}
+use Rattle.std.proofs.Common.{◌≡◌, ℕ, ◌+◌, ◌*◌, ◌<◌, ◌≤◌, Bool, true, false, eqb, ◌&&◌, List, [], ◌∷◌, get_or, map, refl, sym, ap, subst, ◌∙◌, inl, inr, arith}
 use Rattle.std.specs.List.{range_with_len}
 use Rattle.std.proofs.lemmas.Bool.{cases_Bool, cases_eq, eq-eqb, ne_eqb, both_ways}
 use Rattle.std.proofs.lemmas.List.FromFn.{fill_by_all}
 use Rattle.std.proofs.lemmas.Nat.{mul-le}
-use Rattle.std.proofs.Math.Nat.{mul-one, div-one, mod-one}
+use Rattle.std.proofs.Math.Nat.{mul-one, div-one}
 use Rattle.xc_theory.specs.Lattices.{LatticeData, IsLawful, size, below, meet, join, negation, bottom, top}
-use Rattle.xc_alg.specs.Operations.{Operations, IsAlgebra}
-use Rattle.xc_alg.specs.Products.{product, AreLawful}
+use Rattle.xc_alg.specs.Operations.{IsAlgebra}
+use Rattle.xc_alg.specs.Products.{product}
 use Rattle.xc_alg.specs.Tables.{AreTablesOf, entry, lattice_in}
 use Rattle.xc_alg.proofs.AlgebraLaws.{meet_of_below, below_of_meet}
 use Rattle.xc_alg.proofs.Parts.{single, single_laws}
@@ -27,11 +27,11 @@ unfolding lattice_in
 lattice_in-is l n meet_rows join_rows negation_row h =
     let row = λ (a : ℕ). map (λ b. eqb (entry meet_rows a b) a) (range_with_len 0 n) in
     let order : l.order ≡ map row (range_with_len 0 n) =
-      fill_by_all row l.order n [] h.sized (λ a ha.
-        fill_by_all (λ b. eqb (entry meet_rows a b) a) (get_or l.order a []) n false (h.lawful.shape.square.columns a (omega (arith, h.sized)) ∙ h.sized) (λ b hb.
-          below_by_meet l h.lawful h.several a b (entry meet_rows a b) (omega (arith, h.sized)) (omega (arith, h.sized)) (h.meets a b ha hb))) in
+    fill_by_all row l.order n [] h.sized (λ a ha.
+    fill_by_all (λ b. eqb (entry meet_rows a b) a) (get_or l.order a []) n false (h.lawful.shape.square.columns a (omega (arith, h.sized)) ∙ h.sized) (λ b hb.
+    below_by_meet l h.lawful h.several a b (entry meet_rows a b) (omega (arith, h.sized)) (omega (arith, h.sized)) (h.meets a b ha hb))) in
     let negations : l.negations ≡ map (λ a. get_or negation_row a 0) (range_with_len 0 n) =
-      fill_by_all (λ a. get_or negation_row a 0) l.negations n 0 (h.lawful.shape.negations ∙ h.sized) (λ a ha. sym (h.negations a ha)) in
+    fill_by_all (λ a. get_or negation_row a 0) l.negations n 0 (h.lawful.shape.negations ∙ h.sized) (λ a ha. sym (h.negations a ha)) in
     sym (ap (λ (o : List (List Bool)). record { order = o; negations = l.negations }) order ∙ ap (λ (s : List ℕ). record { order = map row (range_with_len 0 n); negations = s }) negations)
 
 -- tables of a lattice are those of the lattice that they tell
@@ -91,7 +91,7 @@ module _ {l : LatticeData} {n : ℕ} {meet_rows join_rows : List (List ℕ)} {ne
 
   -- what a look at an entry asks, with the sizes in bytes of the rows of an array
   pub entry_call : (most a b : ℕ) → n ≤ most → most ≤ 64 → a < (product (l ∷ [])).size → b < (product (l ∷ [])).size
-    → (most * (most * 1) < 9223372036854775808) × ((most * 1 < 9223372036854775808) × ((a < most) × ((b < most) × (most ≤ 64))))
+      → (most * (most * 1) < 9223372036854775808) × ((most * 1 < 9223372036854775808) × ((a < most) × ((b < most) × (most ≤ 64))))
   entry_call most a b fits small ha hb =
       (omega (arith, mul-le most (most * 1) 64 64 small (omega arith)), (omega arith, (omega (arith, code-row a ha), (omega (arith, code-row b hb), small))))
 
@@ -110,7 +110,7 @@ module _ {l : LatticeData} {n : ℕ} {meet_rows join_rows : List (List ℕ)} {ne
   pub below-entry : (a b : ℕ) → a < (product (l ∷ [])).size → b < (product (l ∷ [])).size → eqb (entry meet_rows a b) a ≡ (product (l ∷ [])).below a b
   below-entry a b ha hb =
       sym (product_below l a b
-        ∙ below_by_meet l h.lawful h.several a b (entry meet_rows a b) (omega (arith, product_size l)) (omega (arith, product_size l)) (h.meets a b (code-row a ha) (code-row b hb)))
+      ∙ below_by_meet l h.lawful h.several a b (entry meet_rows a b) (omega (arith, product_size l)) (omega (arith, product_size l)) (h.meets a b (code-row a ha) (code-row b hb)))
 
   -- entries are elements
   pub meet-lt : (a b : ℕ) → a < n → b < n → entry meet_rows a b < n

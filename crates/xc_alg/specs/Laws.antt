@@ -1,9 +1,10 @@
 -- What follows from the definitions, as statements that public functions carry.
-use Rattle.std.specs.Prelude.{◌≡◌, ◌<◌, ℕ, Bool, true, List}
+use Rattle.std.specs.Prelude.{◌≡◌, ◌<◌, ℕ, true, List, map}
+use Rattle.xc_theory.specs.Bounds.{meet_of, join_of}
 use Rattle.xc_theory.specs.Lattices.{LatticeData}
 use Rattle.xc_alg.specs.Codes.{total, digits, code_of, AreDigits}
 use Rattle.xc_alg.specs.Operations.{Operations, IsAlgebra}
-use Rattle.xc_alg.specs.Products.{product, AreLawful, meet_codes, join_codes}
+use Rattle.xc_alg.specs.Products.{product, AreLawful, sizes, bound_digits, negation_digits, meet_codes, join_codes}
 use Rattle.xc_alg.specs.Bounds.{AreElements, IsMeetOf, IsJoinOf, met, joined}
 
 -- codes and rows of digits stand for each other
@@ -124,3 +125,19 @@ DigitwiseMeets = (parts : List LatticeData) (codes : List ℕ) → AreLawful par
 
 abbrev pub DigitwiseJoins : Type 0
 DigitwiseJoins = (parts : List LatticeData) (codes : List ℕ) → AreLawful parts → AreElements (product parts).size codes → join_codes parts codes ≡ joined (product parts) codes
+
+-- the digits of a bound are the bounds of the digits, and those of a negation the negations
+abbrev pub DigitsOfMeets : Type 0
+DigitsOfMeets =
+    (parts : List LatticeData) (codes : List ℕ) → AreLawful parts
+    → digits (sizes parts) (meet_codes parts codes) ≡ bound_digits (λ l row. meet_of l.order row) parts (map (digits (sizes parts)) codes)
+
+abbrev pub DigitsOfJoins : Type 0
+DigitsOfJoins =
+    (parts : List LatticeData) (codes : List ℕ) → AreLawful parts
+    → digits (sizes parts) (join_codes parts codes) ≡ bound_digits (λ l row. join_of l.order row) parts (map (digits (sizes parts)) codes)
+
+abbrev pub DigitsOfNegations : Type 0
+DigitsOfNegations =
+    (parts : List LatticeData) (code : ℕ) → AreLawful parts → code < (product parts).size
+    → digits (sizes parts) ((product parts).negation code) ≡ negation_digits parts (digits (sizes parts) code)

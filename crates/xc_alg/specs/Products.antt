@@ -53,5 +53,5 @@ product parts =
       join = λ a b. join_codes parts (a ∷ b ∷ []);
       negation = λ a. code_of (sizes parts) (negation_digits parts (digits (sizes parts) a));
       bottom = join_codes parts [];
-      top = meet_codes parts []
+      top = meet_codes parts [];
     }

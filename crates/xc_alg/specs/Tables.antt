@@ -22,5 +22,5 @@ unfoldable pub lattice_in : ℕ → List (List ℕ) → List ℕ → LatticeData
 lattice_in n meet_rows negation_row =
     record {
       order = map (λ a. map (λ b. entry meet_rows a b == a) (range_with_len 0 n)) (range_with_len 0 n);
-      negations = map (λ a. slice_index negation_row a) (range_with_len 0 n)
+      negations = map (λ a. slice_index negation_row a) (range_with_len 0 n);
     }

@@ -5,7 +5,7 @@ ghost use Rattle.xc_alg.specs.Laws.{MeetIsMonotone, JoinIsMonotone, MeetWithTop,
 ghost use Rattle.xc_alg.specs.Laws.{MeetDistributes, JoinDistributes};
 ghost use Rattle.xc_alg.specs.Laws.{NegationIsInvolution, NegationOfMeet, NegationOfJoin, NegationOfBottom, NegationOfTop};
 ghost use Rattle.xc_alg.specs.Laws.{MetAreMeets, JoinedAreJoins, MeetsAreUnique, JoinsAreUnique};
-ghost use Rattle.xc_alg.specs.Laws.{ProductsAreAlgebras, DigitwiseMeets, DigitwiseJoins};
+ghost use Rattle.xc_alg.specs.Laws.{ProductsAreAlgebras, DigitwiseMeets, DigitwiseJoins, DigitsOfMeets, DigitsOfJoins, DigitsOfNegations};
 
 /// A code below the total stands for one row of digits, and a row of digits in range for one such code.
 pub fn codes_and_digits()
@@ -67,4 +67,7 @@ pub fn products_are_algebras()
     ensures laws { ProductsAreAlgebras }
     ensures meets { DigitwiseMeets }
     ensures joins { DigitwiseJoins }
+    ensures digits_of_meets { DigitsOfMeets }
+    ensures digits_of_joins { DigitsOfJoins }
+    ensures digits_of_negations { DigitsOfNegations }
 {}

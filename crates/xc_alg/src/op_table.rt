@@ -17,7 +17,7 @@ pub struct OpTable<const N: usize> {
     ghost tells: { AreTablesOf (lattice_in n meet neg) n meet join neg },
     ghost fits: { n ≤ N },
     ghost small: { N ≤ 64 },
-    // Both follow from the tables. They stand here since what an `impl` says of a trait's laws reads fields alone.
+    // Both follow from the tables. They are kept since an `impl` shows a trait's laws by what the value keeps.
     ghost laws: { IsAlgebra (product (lattice_in n meet neg ∷ [])) },
     ghost limited: { (product (lattice_in n meet neg ∷ [])).size ≤ 4096 },
 }

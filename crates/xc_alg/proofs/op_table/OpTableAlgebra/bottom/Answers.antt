@@ -1,5 +1,5 @@
 use Rattle.std.proofs.Common.{arith}
-use Rattle.xc_alg.proofs.Tables.{below_self, meet-lt, meet_more, below_all-bottom}
+use Rattle.xc_alg.proofs.Tables.{meet-lt, meet_more, below_all-bottom}
 use Rattle.xc_alg.proofs.op_table.OpTableAlgebra.bottom.Goals as goal
 
 pub loop-a-preserved : goal.loop-a-preserved
@@ -7,7 +7,7 @@ loop-a-preserved g c =
     rw c.entry_at-least.ensures
     (record {
       in_range = meet-lt c.args.self.now.tells c.loop-a.least c.loop-a.a c.loop-a.invariant.in_range c.loop-a-test.true;
-      below = λ k hk. meet_more c.args.self.now.tells c.loop-a.least c.loop-a.a k c.loop-a.invariant.in_range c.loop-a-test.true c.loop-a.invariant.below hk
+      below = λ k hk. meet_more c.args.self.now.tells c.loop-a.least c.loop-a.a k c.loop-a.invariant.in_range c.loop-a-test.true c.loop-a.invariant.below hk;
     })
 
 pub returns : goal.returns
