@@ -1,0 +1,7 @@
+pub mod Codes
+pub mod AlgebraLaws
+pub mod Pairs
+pub mod Parts
+pub mod Products
+pub mod Tables
+pub mod Literals

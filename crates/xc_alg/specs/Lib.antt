@@ -1,0 +1,7 @@
+pub mod Codes
+pub mod Operations
+pub mod Products
+pub mod Bounds
+pub mod Laws
+pub mod Tables
+pub mod OpTables
