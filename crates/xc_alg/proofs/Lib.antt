@@ -1,4 +1,3 @@
-pub mod Codes
 pub mod AlgebraLaws
 pub mod Pairs
 pub mod Parts

@@ -3,11 +3,11 @@ use Rattle.std.proofs.Common.{◌≡◌, ℕ, ◌<◌, ◌≤◌, List, [], ◌�
 use Rattle.xc_theory.specs.Bounds.{meet_of, join_of}
 use Rattle.xc_theory.specs.Lattices.{LatticeData, IsLawful, size}
 use Rattle.xc_theory.proofs.Bounds.{meet_of_lt, join_of_lt}
-use Rattle.xc_alg.specs.Codes.{total, digits, code_of, AreDigits}
+use Rattle.xc_theory.specs.Codes.{total, digits, code_of, AreDigits}
 use Rattle.xc_alg.specs.Operations.{Operations, IsAlgebra}
 use Rattle.xc_alg.specs.Products.{product, AreLawful, sizes, firsts, rests, bound_digits, negation_digits, meet_codes, join_codes}
 use Rattle.xc_alg.specs.Bounds.{AreElements, met, joined}
-use Rattle.xc_alg.proofs.Codes.{digits_are_in_range, digits_of_codes}
+use Rattle.xc_theory.proofs.Codes.{digits_are_in_range, digits_of_codes}
 use Rattle.xc_alg.proofs.Pairs.{pair, pair_laws}
 use Rattle.xc_alg.proofs.Parts.{single, single_laws, meet_of_more, join_of_more}
 

@@ -2,23 +2,10 @@
 use Rattle.std.specs.Prelude.{◌≡◌, ◌<◌, ℕ, true, List, map}
 use Rattle.xc_theory.specs.Bounds.{meet_of, join_of}
 use Rattle.xc_theory.specs.Lattices.{LatticeData}
-use Rattle.xc_alg.specs.Codes.{total, digits, code_of, AreDigits}
+use Rattle.xc_theory.specs.Codes.{digits}
 use Rattle.xc_alg.specs.Operations.{Operations, IsAlgebra}
 use Rattle.xc_alg.specs.Products.{product, AreLawful, sizes, bound_digits, negation_digits, meet_codes, join_codes}
 use Rattle.xc_alg.specs.Bounds.{AreElements, IsMeetOf, IsJoinOf, met, joined}
-
--- codes and rows of digits stand for each other
-abbrev pub DigitsAreInRange : Type 0
-DigitsAreInRange = (sizes : List ℕ) (code : ℕ) → code < total sizes → AreDigits sizes (digits sizes code)
-
-abbrev pub CodesAreInRange : Type 0
-CodesAreInRange = (sizes row : List ℕ) → AreDigits sizes row → code_of sizes row < total sizes
-
-abbrev pub DigitsOfCodes : Type 0
-DigitsOfCodes = (sizes row : List ℕ) → AreDigits sizes row → digits sizes (code_of sizes row) ≡ row
-
-abbrev pub CodesOfDigits : Type 0
-CodesOfDigits = (sizes : List ℕ) (code : ℕ) → code < total sizes → code_of sizes (digits sizes code) ≡ code
 
 -- a law of two, or of three, elements of every algebra
 abbrev pub OfOne : (Operations → ℕ → Type 0) → Type 0

@@ -1,4 +1,3 @@
-pub mod Codes
 pub mod Operations
 pub mod Products
 pub mod Bounds

@@ -3,7 +3,7 @@
 use Rattle.std.specs.Prelude.{◌≤◌, ℕ, Bool, true, ◌&&◌, List, [], ◌∷◌, map, drop, slice_index}
 use Rattle.xc_theory.specs.Bounds.{meet_of, join_of}
 use Rattle.xc_theory.specs.Lattices.{LatticeData, size, below, negation, IsLawful}
-use Rattle.xc_alg.specs.Codes.{total, digits, code_of}
+use Rattle.xc_theory.specs.Codes.{total, digits, code_of}
 use Rattle.xc_alg.specs.Operations.{Operations}
 
 abbrev pub sizes : List LatticeData → List ℕ

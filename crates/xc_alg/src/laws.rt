@@ -1,19 +1,10 @@
 //! Laws of the definitions in `specs/`, each carried by a function with an empty body.
-ghost use Rattle.xc_alg.specs.Laws.{DigitsAreInRange, CodesAreInRange, DigitsOfCodes, CodesOfDigits};
 ghost use Rattle.xc_alg.specs.Laws.{MeetCommutes, JoinCommutes, MeetIsAssociative, JoinIsAssociative, MeetIsIdempotent, JoinIsIdempotent, MeetAbsorbs, JoinAbsorbs, BelowIsMeet, BelowIsJoin};
 ghost use Rattle.xc_alg.specs.Laws.{MeetIsMonotone, JoinIsMonotone, MeetWithTop, JoinWithBottom, MeetWithBottom, JoinWithTop};
 ghost use Rattle.xc_alg.specs.Laws.{MeetDistributes, JoinDistributes};
 ghost use Rattle.xc_alg.specs.Laws.{NegationIsInvolution, NegationOfMeet, NegationOfJoin, NegationOfBottom, NegationOfTop};
 ghost use Rattle.xc_alg.specs.Laws.{MetAreMeets, JoinedAreJoins, MeetsAreUnique, JoinsAreUnique};
 ghost use Rattle.xc_alg.specs.Laws.{ProductsAreAlgebras, DigitwiseMeets, DigitwiseJoins, DigitsOfMeets, DigitsOfJoins, DigitsOfNegations};
-
-/// A code below the total stands for one row of digits, and a row of digits in range for one such code.
-pub fn codes_and_digits()
-    ensures digits_in_range { DigitsAreInRange }
-    ensures codes_in_range { CodesAreInRange }
-    ensures digits_of_codes { DigitsOfCodes }
-    ensures codes_of_digits { CodesOfDigits }
-{}
 
 /// In every algebra meet and join commute, associate, are idempotent and absorb each other, and say what is below what.
 pub fn lattice_laws()

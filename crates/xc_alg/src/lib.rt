@@ -9,8 +9,8 @@ mod op_table;
 
 pub use algebra::{Algebra, implies, laws_hold};
 pub use laws::{
-    bounds_of_lists, codes_and_digits, distributive_laws, lattice_laws, monotone_laws,
-    negation_laws, products_are_algebras,
+    bounds_of_lists, distributive_laws, lattice_laws, monotone_laws, negation_laws,
+    products_are_algebras,
 };
 pub use op_table::OpTable;
 

@@ -3,6 +3,7 @@ use Rattle.std.specs.Prelude.{◌≡◌, ◌<◌, ℕ, Bool, true, List, Some, N
 use Rattle.xc_theory.specs.Orders.{is_below, IsAntisymmetric, Reaches, IsSpannedBy}
 use Rattle.xc_theory.specs.Bounds.{IsMeet, IsJoin, first_meet, first_join}
 use Rattle.xc_theory.specs.Chains.{IsHeight}
+use Rattle.xc_theory.specs.Codes.{total, digits, code_of, AreDigits}
 
 -- what is found is a bound
 abbrev pub MeetsAreFound : Type 0
@@ -52,3 +53,16 @@ SpannedIsUnique = (test : ℕ → ℕ → Bool) (n : ℕ) (t u : List (List Bool
 -- an order has one height
 abbrev pub HeightsAreUnique : Type 0
 HeightsAreUnique = (table : List (List Bool)) (h k : ℕ) → IsHeight table h → IsHeight table k → h ≡ k
+
+-- codes and rows of digits stand for each other
+abbrev pub DigitsAreInRange : Type 0
+DigitsAreInRange = (sizes : List ℕ) (code : ℕ) → code < total sizes → AreDigits sizes (digits sizes code)
+
+abbrev pub CodesAreInRange : Type 0
+CodesAreInRange = (sizes row : List ℕ) → AreDigits sizes row → code_of sizes row < total sizes
+
+abbrev pub DigitsOfCodes : Type 0
+DigitsOfCodes = (sizes row : List ℕ) → AreDigits sizes row → digits sizes (code_of sizes row) ≡ row
+
+abbrev pub CodesOfDigits : Type 0
+CodesOfDigits = (sizes : List ℕ) (code : ℕ) → code < total sizes → code_of sizes (digits sizes code) ≡ code

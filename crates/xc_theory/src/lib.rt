@@ -3,6 +3,7 @@
 //! The definitions stand in `specs/`. Each function here has an empty body: its contract is a law of the definitions.
 #![tactic(auto)]
 
+ghost use Rattle.xc_theory.specs.Laws.{DigitsAreInRange, CodesAreInRange, DigitsOfCodes, CodesOfDigits};
 ghost use Rattle.xc_theory.specs.Laws.{MeetsAreFound, JoinsAreFound, NoOtherMeets, NoOtherJoins};
 ghost use Rattle.xc_theory.specs.Laws.{MeetsAreUnique, JoinsAreUnique, HeightsAreUnique};
 ghost use Rattle.xc_theory.specs.Laws.{ReachingIsReflexive, ReachingIsTransitive};
@@ -38,4 +39,12 @@ pub fn spanned_tables_are_orders()
 /// An order has one height.
 pub fn heights_are_unique()
     ensures { HeightsAreUnique }
+{}
+
+/// A code below the total stands for one row of digits, and a row of digits in range for one such code.
+pub fn codes_and_digits()
+    ensures digits_in_range { DigitsAreInRange }
+    ensures codes_in_range { CodesAreInRange }
+    ensures digits_of_codes { DigitsOfCodes }
+    ensures codes_of_digits { CodesOfDigits }
 {}

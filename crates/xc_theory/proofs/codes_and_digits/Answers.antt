@@ -1,5 +1,5 @@
-use Rattle.xc_alg.proofs.Codes.{digits_are_in_range, codes_are_in_range, digits_of_codes, codes_of_digits}
-use Rattle.xc_alg.proofs.laws.codes_and_digits.Goals as goal
+use Rattle.xc_theory.proofs.Codes.{digits_are_in_range, codes_are_in_range, digits_of_codes, codes_of_digits}
+use Rattle.xc_theory.proofs.codes_and_digits.Goals as goal
 
 pub returns-clause-digits_in_range : goal.returns-clause-digits_in_range
 returns-clause-digits_in_range c = digits_are_in_range

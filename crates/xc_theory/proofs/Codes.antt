@@ -2,8 +2,8 @@
 use Rattle.std.proofs.Common.{ℕ, zero, suc, ◌*◌, ◌%◌, ◌<◌, List, [], ◌∷◌, refl, ap, arith}
 use Rattle.std.proofs.lemmas.Nat.{div-mul-add, mod-mul-add, mul-add-lt, div-add-mod', div_below, mod_below}
 use Rattle.std.proofs.Math.Nat.{mul_comm}
-use Rattle.xc_alg.specs.Codes.{total, code_of}
-use Rattle.xc_alg.specs.Laws.{DigitsAreInRange, CodesAreInRange, DigitsOfCodes, CodesOfDigits}
+use Rattle.xc_theory.specs.Codes.{total, code_of}
+use Rattle.xc_theory.specs.Laws.{DigitsAreInRange, CodesAreInRange, DigitsOfCodes, CodesOfDigits}
 
 -- a number below a product is zero in no factor
 pub positive_factor : (code size rest : ℕ) → code < size * rest → 0 < rest
