@@ -1,5 +1,4 @@
--- The operations of an algebra on the codes 0 to size - 1, and the laws of a quasi-Boolean algebra: a distributive
--- lattice with a least and a greatest element, and a negation that is an involution and turns the order round.
+-- The operations of an algebra on the codes 0 to size - 1, and the laws that make it a quasi-Boolean algebra.
 use Rattle.std.specs.Prelude.{◌≡◌, ◌<◌, ℕ, Bool, true}
 
 pub record Operations : Type 0 where
@@ -28,7 +27,7 @@ pub record IsAlgebra (o : Operations) : Type 0 where
   pub join_above_right : (a b : ℕ) → a < o.size → b < o.size → o.below b (o.join a b) ≡ true
   pub join_least : (a b c : ℕ) → a < o.size → b < o.size → c < o.size → o.below a c ≡ true → o.below b c ≡ true → o.below (o.join a b) c ≡ true
   pub distributive : (a b c : ℕ) → a < o.size → b < o.size → c < o.size → o.meet a (o.join b c) ≡ o.join (o.meet a b) (o.meet a c)
-  -- the negation is an involution and turns the order round
+  -- negating twice changes nothing, and negating reverses the order
   pub negation_in_range : (a : ℕ) → a < o.size → o.negation a < o.size
   pub involution : (a : ℕ) → a < o.size → o.negation (o.negation a) ≡ a
   pub antitone : (a b : ℕ) → a < o.size → b < o.size → o.below a b ≡ true → o.below (o.negation b) (o.negation a) ≡ true

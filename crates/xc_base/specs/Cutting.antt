@@ -1,4 +1,5 @@
 -- What the steps of the cutting give.
+-- Words for the steps of the code: public clauses do not rest on them.
 use Rattle.std.specs.Prelude.{◌≡◌, ℕ, ◌+◌, if◌then◌else◌, List, [], ◌∷◌, Option, Some}
 use Rattle.xc_base.specs.Text.{joins_next}
 use Rattle.xc_base.specs.declared.fault.TextFault.{TextFault}

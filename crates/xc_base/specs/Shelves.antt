@@ -62,11 +62,11 @@ pub record Kept : Type 0 where
   pub failed : List (List ℕ)
   pub calls : ℕ
 
--- it tells its files, and it is steady where no call is to fail
 abbrev pub is_empty : List ℕ → Bool
 is_empty [] = true
 is_empty (x ∷ xs) = false
 
+-- what it tells: its files, and that it is steady where no call is to fail
 abbrev pub shelved : Kept → Shelved
 shelved kept = record { told = Some (record { files = kept.files; failed = kept.failed; steady = is_empty kept.failing }); faults = length kept.failed }
 

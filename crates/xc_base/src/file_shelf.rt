@@ -9,14 +9,15 @@ use std::rt::Files;
 
 /// The system's files.
 ///
-/// It tells no files. Names go to the system as they stand. A file that can't be opened or read is a fault.
+/// The files are not told. A name is handed to the system unchanged. Each load that gives no bytes raises the count of
+/// faults: where the file can't be opened or read, and where there is no memory for it.
 #[derive(Drop)]
 pub struct FileShelf<'a, R: Files> {
     rt: &'a R,
     faults: u64,
 }
 
-/// The bytes of a reader up to its end, or the first `limit + 1` of them. Each turn takes at least one byte.
+/// The bytes of a reader up to its end, or the first `limit + 1` of them.
 fn read_bytes<F: Read>(alloc: Global, file: &mut F, limit: usize) -> Result<Vec<u8>, LoadFault>
     requires { limit < 2 ^ 32 }
     ensures { IfOk result (λ v. vec_len v ≤ limit + 1) }
@@ -68,7 +69,7 @@ impl<'a, R: Files> Shelf for FileShelf<'a, R> {
 
     fn load(&mut self, alloc: Global, name: &str, limit: usize) -> Result<Vec<u8>, LoadFault> {
         let loaded = read_file(alloc, self.rt, name, limit);
-        if let Err(LoadFault::Failed) = loaded {
+        if loaded.is_err() {
             self.faults = self.faults.saturating_add(1);
         }
         loaded

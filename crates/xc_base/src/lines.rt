@@ -7,7 +7,7 @@ use crate::list::List;
 use crate::memory::Memory;
 use std::alloc::Global;
 
-/// Where a token stands in a text: from `start` up to but not including `end`.
+/// Where a token stands in a text: its bytes are those at the places `start..end`.
 #[derive(Clone, Copy, Debug, PartialEq, Eq)]
 pub struct Token {
     pub start: usize,

@@ -6,8 +6,8 @@ use std::io;
 
 /// A real writer.
 ///
-/// It tells no bytes. A fault is an error of the write, an error of the flush that follows each write, or a write that
-/// takes no byte of a piece that has one. It never answers that there is no memory.
+/// What was written is not told. Each write is followed by a flush; a fault is where one of the two fails, or where the
+/// writer takes nothing of a piece with bytes in it. Memory is never wanted.
 #[derive(Drop)]
 pub struct StreamSink<X: io::Write + Drop> {
     writer: X,

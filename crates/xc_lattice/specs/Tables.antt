@@ -1,4 +1,5 @@
 -- Tables of the bounds of each two elements.
+-- Words for the steps of the code: public clauses do not rest on them.
 use Rattle.std.specs.Prelude.{◌≡◌, ◌<◌, ℕ, Bool, List, [], ◌∷◌, length, Option, None}
 use Rattle.std.specs.List.{slice_index_or}
 use Rattle.xc_theory.specs.Bounds.{first_meet, first_join}

@@ -1,4 +1,5 @@
 -- From pairs to the rows of the order that they span.
+-- Words for the steps of the code: public clauses do not rest on them.
 use Rattle.std.specs.Prelude.{◌≡◌, ◌<◌, ℕ, Bool, true, false, ◌||◌, cond, List, [], map, slice_set, replicate}
 use Rattle.std.specs.List.{slice_index_or, range_with_len, AllWithin}
 use Rattle.xc_theory.specs.Orders.{is_below, Reaches, IsSpannedBy}

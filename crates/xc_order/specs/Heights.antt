@@ -1,4 +1,5 @@
 -- The longest chains upward, by their numbers of steps, and the test of antisymmetry.
+-- Words for the steps of the code: public clauses do not rest on them.
 use Rattle.std.specs.Prelude.{◌==◌, ◌&&◌, ◌||◌, not, ◌+◌, zero, suc, max, ℕ, Bool, cond, List, length}
 use Rattle.std.specs.List.{list_all}
 use Rattle.xc_theory.specs.Orders.{is_below, elements}

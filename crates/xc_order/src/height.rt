@@ -16,7 +16,7 @@ impl Order {
         self.each_is_alone()
     }
 
-    /// The greatest number of elements in a chain, less one.
+    /// The number of steps of a longest chain.
     pub fn height(&self) -> u32
         requires { IsAntisymmetric self.now }
         ensures { IsHeight self.now result }

@@ -8,7 +8,7 @@ IsChain table [] = Unit {0}
 IsChain table (x ∷ []) = x < length table
 IsChain table (x ∷ y ∷ rest) = (x < length table) × (is_below table x y ≡ true) × (x ≢ y) × IsChain table (y ∷ rest)
 
--- the greatest number of elements in a chain, less one
+-- the number of steps of a longest chain, which has one element more
 pub record IsHeight (table : List (List Bool)) (height : ℕ) : Type 0 where
   pub chain : List ℕ
   pub is_chain : IsChain table chain

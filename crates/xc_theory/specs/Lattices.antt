@@ -1,5 +1,4 @@
--- Lattice data, and what makes them a finite quasi-Boolean algebra: a distributive lattice whose negation is an
--- involution and turns the order round.
+-- Lattice data, and the laws by which they are a finite quasi-Boolean algebra.
 use Rattle.std.specs.Prelude.{◌≡◌, ◌<◌, ℕ, Bool, true, List, [], ◌∷◌, length, slice_index}
 use Rattle.xc_theory.specs.Orders.{is_below, IsSquare}
 use Rattle.xc_theory.specs.Bounds.{IsMeet, IsJoin, meet_of, join_of}
@@ -37,7 +36,7 @@ pub record IsWellShaped (l : LatticeData) : Type 0 where
   pub negations : length l.negations ≡ size l
   pub in_range : (a : ℕ) → a < size l → negation l a < size l
 
--- The order is reflexive and transitive, and the six laws hold.
+-- An order with bounds of all pairs that distribute, and a negation that undoes itself and reverses the order.
 pub record IsLawful (l : LatticeData) : Type 0 where
   pub shape : IsWellShaped l
   pub reflexive : (a : ℕ) → a < size l → below l a a ≡ true

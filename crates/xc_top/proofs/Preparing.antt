@@ -1,5 +1,5 @@
 -- What comes of a request whose file was loaded.
-use Rattle.std.proofs.Common.{◌≡◌, ℕ, ◌+◌, ◌<◌, ◌≤◌, List, [], ◌∷◌, Option, Some, None, Result, Ok, Err, MatchOption, IfSome, true, cond, length, take, sym, ap, subst, arith, inl, inr, ◌⊎◌}
+use Rattle.std.proofs.Common.{◌≡◌, ℕ, ◌+◌, ◌<◌, ◌≤◌, List, [], ◌∷◌, ◌++◌, Option, Some, None, Result, Ok, Err, MatchOption, IfSome, true, cond, length, take, sym, ap, subst, arith, inl, inr, ◌⊎◌}
 use Rattle.std.specs.Option.{option_map}
 use Rattle.std.specs.Str.{bytes_eq}
 use Rattle.std.specs.String.{string_bytes}
@@ -14,8 +14,8 @@ use Rattle.xc_base.specs.Shelves.{Told, Shelved, IsLoaded, held}
 use Rattle.xc_base.specs.declared.shelf.File.{File}
 use Rattle.xc_top.specs.Requests.{LatticeOf}
 use Rattle.xc_top.specs.Texts.{file_line}
-use Rattle.xc_top.specs.Outcomes.{Outcome, Absent, Refusal, file_limit, LatticeTasks, JudgesLattice, IsCourse}
-use Rattle.xc_top.specs.Working.{ComesTo, IsPrepared, CanRefuse, outcome_of}
+use Rattle.xc_top.specs.Outcomes.{Outcome, Absent, Refusal, file_limit, LatticeTasks, JudgesLattice, IsCourse, IsReached}
+use Rattle.xc_top.specs.Working.{ComesTo, IsLoadHalt, IsPrepared, CanRefuse, outcome_of}
 use Rattle.xc_top.specs.declared.prepare.Answer.{Answer}
 use Rattle.xc_top.specs.declared.halt.Halt.{Halt}
 use Rattle.xc_top.specs.declared.halt.Halt.TheVariants.{Words, Refused, ReadFault, WriteFault, Memory}
@@ -72,3 +72,17 @@ prepared name bytes shelf shelf_after (Err Memory) loaded comes = tt
 prepared name bytes shelf shelf_after (Err Words) loaded comes = absurd comes
 prepared name bytes shelf shelf_after (Err (ReadFault line)) loaded comes = absurd comes
 prepared name bytes shelf shelf_after (Err WriteFault) loaded comes = absurd comes
+
+-- a shelf that adds the name of a failed load to those that it tells
+one_more : (name : List ℕ) (told told_after : Option Told) → told_after ≡ option_map (λ (t : Told). record t { failed = t.failed ++ name ∷ [] }) told → IfSome told (λ t. IsReached (LatticeOf name) t.files name × (told_after ≡ Some (record t { failed = t.failed ++ name ∷ [] })))
+one_more name None told_after e = tt
+one_more name (Some told) told_after e = (refl, e)
+
+-- a request whose file was not loaded
+pub unloaded : (name : List ℕ) (shelf shelf_after : Shelved) (halt : Halt) → IsLoadHalt name shelf shelf_after halt → IsPrepared (LatticeOf name) shelf shelf_after (Err halt)
+unloaded name shelf shelf_after (ReadFault line) failed =
+    (failed.counted, record { name = name; files = []; reached = refl; told = failed.named; failed = one_more name shelf.told shelf_after.told failed.told })
+unloaded name shelf shelf_after Memory failed = tt
+unloaded name shelf shelf_after Words failed = failed
+unloaded name shelf shelf_after (Refused line) failed = absurd failed
+unloaded name shelf shelf_after WriteFault failed = failed

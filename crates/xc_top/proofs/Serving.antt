@@ -4,10 +4,11 @@ use Rattle.std.proofs.Math.Seq.{take-append_seam}
 use Rattle.std.specs.String.{string_bytes}
 use Rattle.xc_base.specs.Shelves.{Told, Shelved}
 use Rattle.xc_base.specs.Sinks.{Sunk, AddsWhole, AddsPart, AddsFront}
+use Rattle.xc_base.specs.declared.shelf.File.{File}
 use Rattle.xc_top.specs.Requests.{Request, request_of}
 use Rattle.xc_top.specs.Texts.{read_line}
-use Rattle.xc_top.specs.Outcomes.{Outcome, Absent, Refusal, Served, IsCourse, IsOutcome}
-use Rattle.xc_top.specs.Headline.{IsServed, IsRefusal, MayRefuse, AddsAtMost, FailedOnce}
+use Rattle.xc_top.specs.Outcomes.{Outcome, Absent, Refusal, Served, IsCourse, IsOutcome, IsReached}
+use Rattle.xc_top.specs.Headline.{IsServed, IsRefusal, MayRefuse, MayLoad, AddsAtMost, FailedOnce}
 use Rattle.xc_top.specs.Working.{IsPrepared, IsWorked, CanRefuse, IsWriteHalt, outcome_of, passed_status}
 use Rattle.xc_top.specs.declared.prepare.Answer.{Answer}
 use Rattle.xc_top.specs.declared.prepare.Passed.{Passed}
@@ -32,6 +33,12 @@ may_refuse words request line e can = record {
   refused = subst (λ (r : Option Request). MatchOption r ⊥ (λ q. IsCourse q can.files (Refusal line))) e can.refused;
 }
 
+may_load : (words : List (List ℕ)) (request : Request) (name : List ℕ) (files : List File) → Some request ≡ request_of words → IsReached request files name → MayLoad words name
+may_load words request name files e reached = record {
+    files = files;
+    reached = subst (λ (r : Option Request). MatchOption r ⊥ (λ q. IsReached q files name)) e reached;
+}
+
 -- a sink that got nothing got a front of any text
 front_of_none : (text : List ℕ) (bytes : Option (List ℕ)) → AddsFront text bytes bytes
 front_of_none text None = refl
@@ -53,7 +60,9 @@ halted words request shelf shelf_after out Words e p = absurd p
 halted words request shelf shelf_after out (Refused line) e p =
     (some_request (request_of words) request e, may_refuse words request (string_bytes line) e p.0, settled words request shelf.told (Refusal (string_bytes line)) (IsRefusal (λ l. string_bytes line ≡ l)) e p.1 refl, refl)
 halted words request shelf shelf_after out (ReadFault line) e p =
-    (some_request (request_of words) request e, p.0, subst (λ (r : Option Request). IfSome r (λ q. FailedOnce q shelf shelf_after (λ name. string_bytes line ≡ read_line name))) e p.1, refl)
+    (some_request (request_of words) request e,
+    record { name = p.1.name; may = may_load words request p.1.name p.1.files e p.1.reached; named = p.1.told },
+    p.0, subst (λ (r : Option Request). IfSome r (λ q. FailedOnce q shelf shelf_after (λ name. string_bytes line ≡ read_line name))) e p.1, refl)
 halted words request shelf shelf_after out WriteFault e p = absurd p
 halted words request shelf shelf_after out Memory e p = (for_all words shelf.told (AddsAtMost out.bytes out.bytes) (at_most_none out.bytes), λ n. refl)
 

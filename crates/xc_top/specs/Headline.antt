@@ -1,6 +1,6 @@
--- What a call of `run` does, in eight parts. What is said of files holds where the shelf tells them, and what is said of
--- out and err where they tell their bytes.
-use Rattle.std.specs.Prelude.{◌≡◌, ◌≢◌, ℕ, Bool, true, false, List, [], ◌∷◌, ◌++◌, Option, Some, None, IfSome}
+-- What a call of `run` does, in eight parts. Outcomes are spoken of where the shelf tells its files, and the bytes of out
+-- and err where these tell them.
+use Rattle.std.specs.Prelude.{◌≡◌, ◌≢◌, ℕ, Bool, true, false, List, [], ◌∷◌, ◌++◌, Option, Some, None, IfSome, MatchOption}
 use Rattle.xc_base.specs.Shelves.{Told, Shelved, HasRisen, has_risen}
 use Rattle.xc_base.specs.Sinks.{Sunk, AddsWhole, AddsPart, AddsFront, AddsNothing}
 use Rattle.xc_base.specs.declared.shelf.File.{File}
@@ -26,43 +26,45 @@ IsServed P (Served status text) = P status text
 IsServed P (Absent name) = ⊥
 IsServed P (Refusal line) = ⊥
 
--- err got a front of the line, and the whole line unless its count of faults or its count of wants rose
+-- err got the line, or a front of it where one of its counts rose
 pub record GetsLine (line : List ℕ) (old new : Sunk) : Type 0 where
   pub front : AddsFront line old.bytes new.bytes
   pub whole : has_risen old.faults new.faults ≡ false → has_risen old.wants new.wants ≡ false → AddsWhole line old.bytes new.bytes
 
--- The status is Words exactly where the words are no request, but for want of memory; out then gets nothing.
+-- Words that are no request, and only those, have the status Words or Memory, and nothing is written to out.
 pub record AnswersNoRequest (words : List (List ℕ)) (old new : Sunk) (status : Status) : Type 0 where
   pub only : status ≡ Words → request_of words ≡ None
   pub always : request_of words ≡ None → status ≢ Memory → status ≡ Words
   pub out : status ≡ Words → AddsNothing old.bytes new.bytes
 
--- The status is Refused only where the outcome is a refusal, whose line err gets; out gets nothing.
+-- Where the status is Refused, so is the outcome, with the line that err gets; nothing is written to out.
 pub record AnswersRefusal (words : List (List ℕ)) (shelf : Shelved) (old new err err_after : Sunk) (status : Status) : Type 0 where
   pub only : status ≡ Refused → ForOutcome words shelf (IsRefusal (λ line. GetsLine line err err_after))
   pub out : status ≡ Refused → AddsNothing old.bytes new.bytes
 
--- The status is Done or No only where the outcome is served with that status; out gets its whole text.
+-- Where the status is Done or No, the outcome is served with it, and its whole text is on out.
 pub record AnswersService (words : List (List ℕ)) (shelf : Shelved) (old new : Sunk) (status : Status) : Type 0 where
   pub done : status ≡ Done → ForOutcome words shelf (IsServed (λ s text. (s ≡ Done) × AddsWhole text old.bytes new.bytes))
   pub no : status ≡ No → ForOutcome words shelf (IsServed (λ s text. (s ≡ No) × AddsWhole text old.bytes new.bytes))
 
--- A load failed of a name that the words' request may reach, and P holds of the name. Where files are told, that load is
--- reached over them, and the names whose loads failed are those before the call and this one.
+-- One load failed, of a name that the request reaches over some files, and P holds of the name. Where files are told it is
+-- reached over those, and is the one name that joined the failed ones.
 pub record FailedOnce (request : Request) (shelf shelf_after : Shelved) (P : List ℕ → Type 0) : Type 0 where
   pub name : List ℕ
+  pub files : List File
+  pub reached : IsReached request files name
   pub told : P name
   pub failed : IfSome shelf.told (λ told. IsReached request told.files name × (shelf_after.told ≡ Some (record told { failed = told.failed ++ name ∷ [] })))
 
--- The status is ReadFault only where the shelf's count of faults rose, by one load that failed, which err's line names;
--- out gets nothing.
+-- Where the status is ReadFault, the shelf's count of faults rose, by one failed load that err's line names, and nothing is
+-- written to out.
 pub record AnswersReadFault (words : List (List ℕ)) (shelf shelf_after : Shelved) (old new err err_after : Sunk) (status : Status) : Type 0 where
   pub counted : status ≡ ReadFault → HasRisen shelf.faults shelf_after.faults
   pub once : status ≡ ReadFault → IfSome (request_of words) (λ request. FailedOnce request shelf shelf_after (λ name. GetsLine (read_line name) err err_after))
   pub out : status ≡ ReadFault → AddsNothing old.bytes new.bytes
 
--- The status is WriteFault only where out's count of faults rose and the outcome is served; out gets a front of the text
--- that lacks something.
+-- Where the status is WriteFault, out's count of faults rose, the outcome is served, and out has a front of its text but not
+-- all.
 pub record AnswersWriteFault (words : List (List ℕ)) (shelf : Shelved) (old new : Sunk) (status : Status) : Type 0 where
   pub counted : status ≡ WriteFault → HasRisen old.faults new.faults
   pub part : status ≡ WriteFault → ForOutcome words shelf (IsServed (λ s text. AddsPart text old.bytes new.bytes))
@@ -100,13 +102,18 @@ pub record MayRefuse (words : List (List ℕ)) (line : List ℕ) : Type 0 where
   pub files : List File
   pub refused : IsOutcome words files (Refusal line)
 
--- err gets nothing where the request is served, and else the one line of the status
+-- over some files a load of that name is reached
+pub record MayLoad (words : List (List ℕ)) (name : List ℕ) : Type 0 where
+  pub files : List File
+  pub reached : MatchOption (request_of words) ⊥ (λ request. IsReached request files name)
+
+-- nothing is written to err where the request is served, and else the one line of the status
 abbrev pub GetsLineOf : List (List ℕ) → Sunk → Sunk → Status → Type 0
 GetsLineOf words err err_after Done = AddsNothing err.bytes err_after.bytes
 GetsLineOf words err err_after No = AddsNothing err.bytes err_after.bytes
 GetsLineOf words err err_after Words = GetsLine words_line err err_after
 GetsLineOf words err err_after Refused = (line : List ℕ) × MayRefuse words line × GetsLine line err err_after
-GetsLineOf words err err_after ReadFault = (name : List ℕ) × GetsLine (read_line name) err err_after
+GetsLineOf words err err_after ReadFault = (name : List ℕ) × MayLoad words name × GetsLine (read_line name) err err_after
 GetsLineOf words err err_after WriteFault = GetsLine write_line err err_after
 GetsLineOf words err err_after Memory = GetsLine memory_line err err_after
 

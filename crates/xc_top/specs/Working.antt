@@ -1,4 +1,4 @@
--- What the parts of `run` do.
+-- What the parts of `run` do. No public clause rests on these words.
 use Rattle.std.specs.Prelude.{◌≡◌, ℕ, List, [], ◌∷◌, ◌++◌, option_map, None, IsSome, IfSome, Result, Ok, Err}
 use Rattle.std.specs.String.{string_bytes}
 use Rattle.xc_base.specs.Shelves.{Told, Shelved, HasRisen}
@@ -6,7 +6,7 @@ use Rattle.xc_base.specs.declared.shelf.File.{File}
 use Rattle.xc_top.specs.Outcomes.{Outcome, Refusal, Served, IsCourse}
 use Rattle.xc_top.specs.Requests.{Request, request_of}
 use Rattle.xc_top.specs.Texts.{read_line}
-use Rattle.xc_top.specs.Headline.{FailedOnce, ForOutcome, IsServed, IsRefusal, MayRefuse, AddsAtMost, GetsLine}
+use Rattle.xc_top.specs.Headline.{FailedOnce, ForOutcome, IsServed, IsRefusal, MayRefuse, MayLoad, AddsAtMost, GetsLine}
 use Rattle.xc_top.specs.Asked.{halt_status, halt_line}
 use Rattle.xc_base.specs.Sinks.{Sunk, AddsWhole, AddsPart, AddsNothing}
 use Rattle.xc_top.specs.declared.halt.Halt.{Halt}
@@ -68,12 +68,18 @@ IsWriteHalt text old new Words = ⊥
 IsWriteHalt text old new (Refused line) = ⊥
 IsWriteHalt text old new (ReadFault line) = ⊥
 
+-- the line is that of a failed load which the words may reach
+pub record NamesLoad (words : List (List ℕ)) (line : List ℕ) : Type 0 where
+  pub name : List ℕ
+  pub may : MayLoad words name
+  pub named : line ≡ read_line name
+
 -- what serving words did: the request, its outcome, and what out got
 abbrev pub IsWorked : List (List ℕ) → Shelved → Shelved → Sunk → Sunk → Result Passed Halt → Type 0
 IsWorked words shelf shelf_after old new (Ok passed) = IsSome (request_of words) × ForOutcome words shelf (IsServed (λ status text. (status ≡ passed_status passed) × AddsWhole text old.bytes new.bytes))
 IsWorked words shelf shelf_after old new (Err Words) = (request_of words ≡ None) × AddsNothing old.bytes new.bytes
 IsWorked words shelf shelf_after old new (Err (Refused line)) = IsSome (request_of words) × MayRefuse words (string_bytes line) × ForOutcome words shelf (IsRefusal (λ l. string_bytes line ≡ l)) × AddsNothing old.bytes new.bytes
-IsWorked words shelf shelf_after old new (Err (ReadFault line)) = IsSome (request_of words) × HasRisen shelf.faults shelf_after.faults × IfSome (request_of words) (λ request. FailedOnce request shelf shelf_after (λ name. string_bytes line ≡ read_line name)) × AddsNothing old.bytes new.bytes
+IsWorked words shelf shelf_after old new (Err (ReadFault line)) = IsSome (request_of words) × NamesLoad words (string_bytes line) × HasRisen shelf.faults shelf_after.faults × IfSome (request_of words) (λ request. FailedOnce request shelf shelf_after (λ name. string_bytes line ≡ read_line name)) × AddsNothing old.bytes new.bytes
 IsWorked words shelf shelf_after old new (Err WriteFault) = IsSome (request_of words) × HasRisen old.faults new.faults × ForOutcome words shelf (IsServed (λ status text. AddsPart text old.bytes new.bytes))
 IsWorked words shelf shelf_after old new (Err Memory) = ForOutcome words shelf (AddsAtMost old.bytes new.bytes) × (request_of words ≡ None → AddsNothing old.bytes new.bytes)
 

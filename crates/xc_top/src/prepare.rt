@@ -78,7 +78,7 @@ fn judge_lattice(alloc: Global, name: &str, bytes: &[u8]) -> Result<Answer, Halt
 }
 
 /// Answers a request: loads its files, and works on them.
-#[tactic(auto, using(crate::proofs::Preparing::prepared))]
+#[tactic(auto, using(crate::proofs::Preparing::prepared, crate::proofs::Preparing::unloaded))]
 pub(crate) fn prepare<S: Shelf>(
     alloc: Global,
     request: &Request<'_>,
