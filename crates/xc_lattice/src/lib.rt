@@ -13,6 +13,7 @@ mod law;
 mod reader;
 mod rows;
 mod statement;
+mod tabulate;
 mod tuple;
 mod verdict;
 

@@ -1,11 +1,24 @@
-//! The verdicts on files, against values by hand.
+//! The verdicts on files and the tables of their lattices, against values by hand.
+
+ghost use Rattle.std.specs.Prelude.{◌<◌};
+ghost use Rattle.xc_alg.specs.Products.{product};
 
 use crate::fault::LatFault;
 use crate::lattice::Lattice;
 use crate::reader::read;
 use std::alloc::{AllocError, Global};
+use std::fmt::Write;
 use std::test::Fail;
+use xc_alg::Algebra;
 use xc_base::{FileFault, List, Part, Word, cut_lines};
+
+const TWO: &[u8] = b"lattice two\nelements F T\nbelow F T\nnot F T\nnot T F\n";
+
+const CHAIN: &[u8] =
+    b"lattice chain\nelements F M T\nbelow F M\nbelow M T\nnot F T\nnot M M\nnot T F\n";
+
+const DIAMOND: &[u8] =
+    b"lattice diamond\nelements F N B T\nbelow F N\nbelow F B\nbelow N T\nbelow B T\nnot F T\nnot N N\nnot B B\nnot T F\n";
 
 fn told(alloc: Global, lattice: &Lattice) -> Result<String, AllocError> {
     let name = lattice.name().as_str();
@@ -57,18 +70,9 @@ fn answer(alloc: Global, text: &[u8]) -> Result<String, Fail> {
 #[test]
 fn files_have_their_verdicts(rt: HostRuntime) -> Result<(), Fail> {
     let table: [(&[u8], &str); 11] = [
-        (
-            b"lattice two\nelements F T\nbelow F T\nnot F T\nnot T F\n".as_slice(),
-            "lattice two 2 1 0 1 Some(1)",
-        ),
-        (
-            b"lattice chain\nelements F M T\nbelow F M\nbelow M T\nnot F T\nnot M M\nnot T F\n".as_slice(),
-            "lattice chain 3 2 0 2 Some(2)",
-        ),
-        (
-            b"lattice diamond\nelements F N B T\nbelow F N\nbelow F B\nbelow N T\nbelow B T\nnot F T\nnot N N\nnot B B\nnot T F\n".as_slice(),
-            "lattice diamond 4 2 0 3 Some(3)",
-        ),
+        (TWO, "lattice two 2 1 0 1 Some(1)"),
+        (CHAIN, "lattice chain 3 2 0 2 Some(2)"),
+        (DIAMOND, "lattice diamond 4 2 0 3 Some(3)"),
         (
             b"lattice m3\nelements 0 a b c 1\nbelow 0 a\nbelow 0 b\nbelow 0 c\nbelow a 1\nbelow b 1\nbelow c 1\nnot 0 1\nnot a a\nnot b b\nnot c c\nnot 1 0\n".as_slice(),
             "Distributive a b c",
@@ -99,6 +103,56 @@ fn files_have_their_verdicts(rt: HostRuntime) -> Result<(), Fail> {
     for (text, expected) in table {
         let given = answer(rt.alloc(), text)?;
         assert_eq!(rt; given.as_str(), expected);
+    }
+    Ok(())
+}
+
+// The meets of an element with each, its joins with each, and its negation.
+fn element_told<A: Algebra>(alloc: Global, algebra: &A, a: u16) -> Result<String, AllocError>
+    requires { a < (product (A.parts algebra.now)).size }
+{
+    let mut meets = String::new(alloc);
+    let mut joins = String::new(alloc);
+    for b in 0..algebra.size() {
+        write!(meets, "{}", algebra.meet(a, b))?;
+        write!(joins, "{}", algebra.join(a, b))?;
+    }
+    format!(in alloc; " {meets}/{joins}/{}", algebra.neg(a))
+}
+
+fn operations_told<A: Algebra>(alloc: Global, algebra: &A) -> Result<String, AllocError> {
+    let mut text = String::new(alloc);
+    for a in 0..algebra.size() {
+        text.push_str(element_told(alloc, algebra, a)?.as_str())?;
+    }
+    Ok(text)
+}
+
+// Three elements between two have no table, since they are no lattice of the laws. The last one here is Boolean, and
+// its top stands first.
+#[test]
+fn tables_hold_the_operations(rt: HostRuntime) -> Result<(), Fail> {
+    let table: [(&[u8], &str); 4] = [
+        (TWO, " 00/01/1 01/11/0"),
+        (CHAIN, " 000/012/2 011/112/1 012/222/0"),
+        (DIAMOND, " 0000/0123/3 0101/1133/1 0022/2323/2 0123/3333/0"),
+        (
+            b"lattice boolean\nelements 1 a b 0\nbelow 0 a\nbelow 0 b\nbelow a 1\nbelow b 1\nnot 1 0\nnot a b\nnot b a\nnot 0 1\n".as_slice(),
+            " 0123/0000/3 1133/0101/2 2323/0022/1 3333/0123/0",
+        ),
+    ];
+    for (text, expected) in table {
+        let lines = cut_lines(rt.alloc(), text, 1_048_576)?;
+        let lattice = read(rt.alloc(), &lines)?;
+        assert!(rt; lattice.size() <= 4);
+        assert_eq!(rt;
+            operations_told(rt.alloc(), &lattice.table::<4>())?.as_str(),
+            expected
+        );
+        assert_eq!(rt;
+            operations_told(rt.alloc(), &lattice.table::<64>())?.as_str(),
+            expected
+        );
     }
     Ok(())
 }

@@ -1,0 +1,6 @@
+use Rattle.std.proofs.Common.{◌≡◌, ℕ, ◌<◌, [], ◌∷◌, length, get_or}
+use Rattle.xc_theory.specs.Bounds.{meet_of}
+use Rattle.xc_lattice.proofs.tabulate.meet_row.Given as goal
+
+abbrev pub invariant-loop-b : goal.invariant-loop-b
+invariant-loop-b g l = (length l.row ≡ g.row.N) × ((k : ℕ) → k < l.b → get_or l.row k 0 ≡ meet_of l.order (l.a ∷ k ∷ []))
