@@ -14,5 +14,6 @@ pub mod Reading
 pub mod Said
 pub mod Spanning
 pub mod Tokens
+pub mod Unbroken
 pub mod Values
 pub mod Verdicts

@@ -4,7 +4,7 @@ ghost use Rattle.std.specs.Prelude.{◌≡◌, ◌<◌, ℕ, length, slice_index
 ghost use Rattle.std.specs.List.{range_with_len};
 ghost use Rattle.xc_theory.specs.Lattices.{size};
 ghost use Rattle.xc_lattice.specs.Breaks.{breaks, tuples, first_tuple, first_break};
-ghost use Rattle.xc_lattice.specs.Lawful.{LawfulWithoutBreak};
+ghost use Rattle.xc_lattice.specs.Lawful.{LawfulWithoutBreak, LawfulIsUnbroken};
 ghost use Rattle.xc_lattice.specs.Bounded.{lattice_of};
 ghost use Rattle.xc_lattice.specs.Tuples.{elements_of, pair_of, break_of};
 
@@ -143,7 +143,8 @@ impl<'a> Bounded<'a> {
     }
 }
 
-/// Lattice data of a reflexive and transitive order that break none of the laws are lawful.
-pub fn lattices_without_break_are_lawful()
-    ensures { LawfulWithoutBreak }
+/// Well-shaped data of a reflexive and transitive order that break no law are lawful, and lawful data break none.
+pub fn lawful_is_without_break()
+    ensures lawful { LawfulWithoutBreak }
+    ensures unbroken { LawfulIsUnbroken }
 {}

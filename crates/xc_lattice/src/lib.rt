@@ -17,7 +17,7 @@ mod tabulate;
 mod tuple;
 mod verdict;
 
-pub use breaks::lattices_without_break_are_lawful;
+pub use breaks::lawful_is_without_break;
 pub use fault::LatFault;
 pub use lattice::Lattice;
 pub use law::Law;
