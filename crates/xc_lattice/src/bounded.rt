@@ -86,7 +86,7 @@ impl<'a> Bounded<'a> {
         self.negations[a as usize]
     }
 
-    fn turns_round(&self, a: u8, b: u8) -> bool
+    fn keeps_their_order(&self, a: u8, b: u8) -> bool
         requires a_in { a < size (lattice_of self.now) }
         requires b_in { b < size (lattice_of self.now) }
         ensures { result ≡ breaks (lattice_of self.now) Law.Antitone (a ∷ b ∷ []) }
@@ -104,7 +104,7 @@ impl<'a> Bounded<'a> {
             Law::Antisymmetry => a != b && self.order.le(a, b) && self.order.le(b, a),
             Law::Meet => self.meets[a as usize][b as usize].is_none(),
             Law::Join => self.joins[a as usize][b as usize].is_none(),
-            Law::Antitone => self.turns_round(a, b),
+            Law::Antitone => self.keeps_their_order(a, b),
             Law::Distributive | Law::Involution => false,
         }
     }

@@ -35,8 +35,8 @@ may_refuse words request line e can = record {
 
 may_load : (words : List (List ℕ)) (request : Request) (name : List ℕ) (files : List File) → Some request ≡ request_of words → IsReached request files name → MayLoad words name
 may_load words request name files e reached = record {
-    files = files;
-    reached = subst (λ (r : Option Request). MatchOption r ⊥ (λ q. IsReached q files name)) e reached;
+  files = files;
+  reached = subst (λ (r : Option Request). MatchOption r ⊥ (λ q. IsReached q files name)) e reached;
 }
 
 -- a sink that got nothing got a front of any text
@@ -59,10 +59,13 @@ pub halted : (words : List (List ℕ)) (request : Request) (shelf shelf_after : 
 halted words request shelf shelf_after out Words e p = absurd p
 halted words request shelf shelf_after out (Refused line) e p =
     (some_request (request_of words) request e, may_refuse words request (string_bytes line) e p.0, settled words request shelf.told (Refusal (string_bytes line)) (IsRefusal (λ l. string_bytes line ≡ l)) e p.1 refl, refl)
-halted words request shelf shelf_after out (ReadFault line) e p =
-    (some_request (request_of words) request e,
-    record { name = p.1.name; may = may_load words request p.1.name p.1.files e p.1.reached; named = p.1.told },
-    p.0, subst (λ (r : Option Request). IfSome r (λ q. FailedOnce q shelf shelf_after (λ name. string_bytes line ≡ read_line name))) e p.1, refl)
+halted words request shelf shelf_after out (ReadFault line) e p = (
+  some_request (request_of words) request e,
+  record { name = p.1.name; may = may_load words request p.1.name p.1.files e p.1.reached; named = p.1.told },
+  p.0,
+  subst (λ (r : Option Request). IfSome r (λ q. FailedOnce q shelf shelf_after (λ name. string_bytes line ≡ read_line name))) e p.1,
+  refl,
+)
 halted words request shelf shelf_after out WriteFault e p = absurd p
 halted words request shelf shelf_after out Memory e p = (for_all words shelf.told (AddsAtMost out.bytes out.bytes) (at_most_none out.bytes), λ n. refl)
 
