@@ -128,8 +128,8 @@ fn operations_told<A: Algebra>(alloc: Global, algebra: &A) -> Result<String, All
     Ok(text)
 }
 
-// Three elements between two have no table, since they are no lattice of the laws. The last one here is Boolean, and
-// its top stands first.
+// The example m3 breaks the distributive law, so it is no lattice and has no table. In its place stands a Boolean
+// lattice of four elements, whose top is the first.
 #[test]
 fn tables_hold_the_operations(rt: HostRuntime) -> Result<(), Fail> {
     let table: [(&[u8], &str); 4] = [
