@@ -1,5 +1,6 @@
 ghost use Rattle.std.specs.Prelude.{◌≡◌, ◌<◌, ◌≤◌, ◌^◌, ◌-◌, ◌+◌, IfOk, vec_len};
 ghost use Rattle.xc_base.specs.Shelves.{unseen};
+ghost use Rattle.std.specs.Io.KnownBytes.{Consumes, IsAtEnd};
 
 use crate::shelf::{LoadFault, Shelf};
 use std::alloc::Global;
@@ -20,7 +21,9 @@ pub struct FileShelf<'a, R: Files> {
 /// The bytes of a reader up to its end, or the first `limit + 1` of them.
 fn read_bytes<F: Read>(alloc: Global, file: &mut F, limit: usize) -> Result<Vec<u8>, LoadFault>
     requires { limit < 2 ^ 32 }
-    ensures { IfOk result (λ v. vec_len v ≤ limit + 1) }
+    ensures size { IfOk result (λ v. vec_len v ≤ limit + 1) }
+    ensures bytes { IfOk result (λ v. Consumes (F.remaining file.old) (F.remaining file.new) v.items) }
+    ensures end { IfOk result (λ v. vec_len v ≤ limit → IsAtEnd (F.remaining file.new)) }
 {
     let mut bytes = Vec::new(alloc);
     let mut chunk = [0u8; 4096];

@@ -1,4 +1,7 @@
-ghost use Rattle.std.specs.Prelude.{◌≡◌, ◌<◌, ◌≤◌, length, IfSome};
+ghost use Rattle.std.specs.Prelude.{◌≡◌, ◌<◌, ◌≤◌, length, take, IfSome, IfOk, OnOk, IsErrOf};
+ghost use Rattle.std.specs.Io.KnownBytes.{Appends};
+ghost use Rattle.xc_base.specs.Shelves.{HasRisen};
+ghost use Rattle.xc_base.specs.Sinks.{written_after};
 ghost use Rattle.xc_base.specs.Sinks.{unseen};
 
 use crate::sink::{Sink, SinkFault};
@@ -18,6 +21,7 @@ pub struct StreamSink<X: io::Write + Drop> {
 fn write_some<X: io::Write>(writer: &mut X, piece: &[u8]) -> Option<usize>
     ensures within { IfSome result (λ k. k ≤ length piece.now) }
     ensures some { IfSome result (λ k. 0 < length piece.now → 0 < k) }
+    ensures bytes { IfSome result (λ k. Appends (X.contents writer.old) (X.contents writer.new) (take k piece.now)) }
 {
     let count = writer.write(piece).ok()?;
     writer.flush().ok()?;
@@ -39,7 +43,17 @@ impl<X: io::Write + Drop> StreamSink<X> {
 impl<X: io::Write + Drop> Sink for StreamSink<X> {
     ghost seen = { λ s. unseen s.faults };
 
-    fn put(&mut self, piece: &[u8]) -> Result<usize, SinkFault> {
+    fn put(&mut self, piece: &[u8]) -> Result<usize, SinkFault>
+        ensures within { IfOk result (λ k. k ≤ length piece.now) }
+        ensures some { IfOk result (λ k. 0 < length piece.now → 0 < k) }
+        ensures written { (unseen self.new.faults).bytes ≡ written_after (unseen self.old.faults).bytes piece.now result }
+        ensures fault_counts { self.old.faults ≤ self.new.faults }
+        ensures want_counts { (unseen self.old.faults).wants ≤ (unseen self.new.faults).wants }
+        ensures failed { IsErrOf result SinkFault.Failed → HasRisen self.old.faults self.new.faults }
+        ensures wanted { IsErrOf result SinkFault.Memory → HasRisen (unseen self.old.faults).wants (unseen self.new.faults).wants }
+        // what it answers that it took was appended to the writer, where its bytes are known
+        ensures passed_on { IfOk result (λ k. Appends (X.contents self.old.writer) (X.contents self.new.writer) (take k piece.now)) }
+    {
         match write_some(&mut self.writer, piece) {
             Some(count) => Ok(count),
             None => {

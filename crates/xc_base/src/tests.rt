@@ -93,6 +93,12 @@ fn system_objects(rt: HostRuntime) -> Result<(), Fail> {
             .is_ok_and(|v| v.as_slice() == [0u8; 5].as_slice())
     );
 
+    assert!(rt;
+        shelf
+            .load(alloc, "/dev/zero", 9000)
+            .is_ok_and(|v| v.len() == 9001)
+    );
+
     let mut sink = StreamSink::new(io::Cursor::new([0u8; 4]));
     assert!(rt; put_all(&mut sink, b"1234") == Ok(()));
     assert!(rt; put_all(&mut sink, b"5") == Err(SinkFault::Failed));

@@ -127,3 +127,4 @@ TellsSame (Some old) (Some new) = (new.files ≡ old.files) × (new.steady ≡ o
 pub record KeepsTheRest (words : List (List ℕ)) (shelf shelf_after : Shelved) (err err_after : Sunk) (status : Status) : Type 0 where
   pub line : GetsLineOf words err err_after status
   pub files : TellsSame shelf.told shelf_after.told
+  pub loads : status ≢ ReadFault → status ≢ Memory → shelf_after.told ≡ shelf.told

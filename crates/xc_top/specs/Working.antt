@@ -1,5 +1,5 @@
 -- What the parts of `run` do. No public clause rests on these words.
-use Rattle.std.specs.Prelude.{◌≡◌, ℕ, List, [], ◌∷◌, ◌++◌, option_map, None, IsSome, IfSome, Result, Ok, Err}
+use Rattle.std.specs.Prelude.{◌≡◌, ℕ, List, [], ◌∷◌, ◌++◌, Option, option_map, None, IsSome, IfSome, Result, Ok, Err}
 use Rattle.std.specs.String.{string_bytes}
 use Rattle.xc_base.specs.Shelves.{Told, Shelved, HasRisen}
 use Rattle.xc_base.specs.declared.shelf.File.{File}
@@ -82,6 +82,15 @@ IsWorked words shelf shelf_after old new (Err (Refused line)) = IsSome (request_
 IsWorked words shelf shelf_after old new (Err (ReadFault line)) = IsSome (request_of words) × NamesLoad words (string_bytes line) × HasRisen shelf.faults shelf_after.faults × IfSome (request_of words) (λ request. FailedOnce request shelf shelf_after (λ name. string_bytes line ≡ read_line name)) × AddsNothing old.bytes new.bytes
 IsWorked words shelf shelf_after old new (Err WriteFault) = IsSome (request_of words) × HasRisen old.faults new.faults × ForOutcome words shelf (IsServed (λ status text. AddsPart text old.bytes new.bytes))
 IsWorked words shelf shelf_after old new (Err Memory) = ForOutcome words shelf (AddsAtMost old.bytes new.bytes) × (request_of words ≡ None → AddsNothing old.bytes new.bytes)
+
+-- but where a load failed, and for want of memory, the shelf tells what it told before
+abbrev pub LeavesShelf : {X : Type 0} → Option Told → Option Told → Result X Halt → Type 0
+LeavesShelf old new (Ok x) = new ≡ old
+LeavesShelf old new (Err Words) = new ≡ old
+LeavesShelf old new (Err (Refused line)) = new ≡ old
+LeavesShelf old new (Err WriteFault) = new ≡ old
+LeavesShelf old new (Err (ReadFault line)) = Unit {0}
+LeavesShelf old new (Err Memory) = Unit {0}
 
 -- the status of what serving came to
 abbrev pub ended : Result Passed Halt → Status

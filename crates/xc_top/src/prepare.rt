@@ -6,7 +6,7 @@ ghost use Rattle.xc_top.specs.Headline.{TellsSame};
 ghost use Rattle.xc_lattice.specs.Values.{value_of};
 ghost use Rattle.xc_top.specs.Asked.{asked};
 ghost use Rattle.xc_top.specs.Outcomes.{HasText, LatticeTasks};
-ghost use Rattle.xc_top.specs.Working.{ComesTo, IsLoadHalt, IsPrepared};
+ghost use Rattle.xc_top.specs.Working.{ComesTo, IsLoadHalt, IsPrepared, LeavesShelf};
 
 use crate::halt::Halt;
 use crate::request::Request;
@@ -35,6 +35,7 @@ const FILE_LIMIT: usize = 1_048_576;
 /// The bytes of a file, or the first ones where it has more than it may have.
 fn load<S: Shelf>(alloc: Global, shelf: &mut S, name: &str) -> Result<Vec<u8>, Halt>
     ensures loaded { IfOk result (λ v. IsLoaded (S.seen shelf.old).told name.now FILE_LIMIT v.items) }
+    ensures kept { LeavesShelf (S.seen shelf.old).told (S.seen shelf.new).told result }
     ensures stopped { IfErr result (IsLoadHalt name.now (S.seen shelf.old) (S.seen shelf.new)) }
     ensures files { TellsSame (S.seen shelf.old).told (S.seen shelf.new).told }
 {
@@ -84,6 +85,7 @@ pub(crate) fn prepare<S: Shelf>(
     request: &Request<'_>,
     shelf: &mut S,
 ) -> Result<Answer, Halt>
+    ensures kept { LeavesShelf (S.seen shelf.old).told (S.seen shelf.new).told result }
     ensures prepared { IsPrepared (asked request.now) (S.seen shelf.old) (S.seen shelf.new) result }
     ensures files { TellsSame (S.seen shelf.old).told (S.seen shelf.new).told }
 {

@@ -2,7 +2,7 @@ ghost use Rattle.std.specs.Prelude.{◌≡◌, map, IfOk, IfErr, OnOk};
 ghost use Rattle.std.specs.String.{string_bytes};
 ghost use Rattle.xc_base.specs.Sinks.{AddsWhole};
 ghost use Rattle.xc_top.specs.Headline.{AnswersNoRequest, AnswersRefusal, AnswersService, AnswersReadFault, AnswersWriteFault, AnswersMemory, IsComplete, KeepsTheRest, TellsSame, GetsLine};
-ghost use Rattle.xc_top.specs.Working.{IsWriteHalt, IsWorked};
+ghost use Rattle.xc_top.specs.Working.{IsWriteHalt, IsWorked, LeavesShelf};
 
 use crate::halt::Halt;
 use crate::prepare::{Answer, Passed, prepare};
@@ -32,6 +32,7 @@ fn serve<S: Shelf, W: Sink>(
     shelf: &mut S,
     out: &mut W,
 ) -> Result<Passed, Halt>
+    ensures kept { LeavesShelf (S.seen shelf.old).told (S.seen shelf.new).told result }
     ensures worked { IsWorked (map string_bytes words.now) (S.seen shelf.old) (S.seen shelf.new) (W.seen out.old) (W.seen out.new) result }
     ensures files { TellsSame (S.seen shelf.old).told (S.seen shelf.new).told }
 {
