@@ -1,6 +1,7 @@
 pub mod CutLines
 pub mod CutTokens
 pub mod Loading
+pub mod Naming
 pub mod Deciding
 pub mod Rows
 pub mod Within

@@ -3,6 +3,7 @@ pub mod Deciding
 pub mod Formats
 pub mod Judging
 pub mod Lines
+pub mod Names
 pub mod Shelves
 pub mod Sinks
 pub mod Text

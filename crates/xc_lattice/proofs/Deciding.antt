@@ -2,7 +2,7 @@
 use Rattle.std.proofs.Common.{◌≡◌, ℕ, Bool, true, false, ◌&&◌, List, [], ◌∷◌, Some, None, length, nat_lt, if◌then◌else◌, codes, refl, ◌∙◌, subst, ap}
 use Rattle.std.specs.List.{list_all}
 use Rattle.std.specs.Str.{bytes_eq}
-use Rattle.std.proofs.lemmas.Slice.Eq.{bytes_eq-Decides}
+use Rattle.xc_base.proofs.Naming.{same_bytes, bytes_refl}
 use Rattle.std.proofs.lemmas.Bool.{and_parts}
 use Rattle.xc_base.specs.Words.{is_name}
 use Rattle.xc_base.specs.Deciding.{Decides}
@@ -10,12 +10,6 @@ use Rattle.xc_lattice.specs.declared.statement.Statement.{Statement}
 use Rattle.xc_lattice.specs.declared.statement.Statement.TheVariants.{Lattice, Elements, Below, Not}
 use Rattle.xc_lattice.specs.LatticeFiles.{IsDue, has_names, lattice_format}
 use Rattle.xc_lattice.specs.Deciding.{given, head_line, elements_line, pair_line, law_line, decide}
-
-pub same_bytes : (xs ys : List ℕ) → bytes_eq xs ys ≡ true → xs ≡ ys
-same_bytes xs ys h = (bytes_eq-Decides xs ys).0 h
-
-pub bytes_refl : (xs : List ℕ) → bytes_eq xs xs ≡ true
-bytes_refl xs = (bytes_eq-Decides xs xs).1 refl
 
 none_is_not : {X : Type 0} (x : X) → None ≡ Some x → ⊥
 none_is_not x e = cc

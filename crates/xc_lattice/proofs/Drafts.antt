@@ -9,7 +9,8 @@ use Rattle.xc_base.specs.declared.fault.Part.TheVariants as parts
 use Rattle.xc_base.specs.declared.fault.Counted.TheVariants as counted
 use Rattle.xc_lattice.specs.declared.statement.Statement.{Statement}
 use Rattle.xc_lattice.specs.declared.statement.Statement.TheVariants.{Lattice, Elements, Below, Not}
-use Rattle.xc_lattice.specs.LatticeFiles.{is_among, has_names, element_excess, lattice_format, missing_part}
+use Rattle.xc_lattice.specs.LatticeFiles.{has_names, element_excess, lattice_format, missing_part}
+use Rattle.xc_base.specs.Names.{is_among}
 use Rattle.xc_lattice.specs.Drafts.{IsFact, AreFacts, IsDraft}
 
 not_true : false ≡ true → ⊥

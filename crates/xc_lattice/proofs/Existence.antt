@@ -8,7 +8,8 @@ use Rattle.xc_base.proofs.Deciding.{gives_statements, gives_faults}
 use Rattle.xc_lattice.specs.declared.breaks.Break.{Break}
 use Rattle.xc_lattice.specs.declared.statement.Statement.{Statement}
 use Rattle.xc_lattice.specs.Breaks.{first_break}
-use Rattle.xc_lattice.specs.LatticeFiles.{LatticeValue, lattice_format, name_at, Verdict, IsVerdict}
+use Rattle.xc_lattice.specs.LatticeFiles.{LatticeValue, lattice_format, Verdict, IsVerdict}
+use Rattle.xc_base.specs.Names.{name_at}
 use Rattle.xc_lattice.specs.LatticeFiles.Verdict.{Faulty, Unlawful, Lawful}
 use Rattle.xc_lattice.specs.Laws.{EachHasVerdict}
 use Rattle.xc_lattice.specs.Deciding.{decide}

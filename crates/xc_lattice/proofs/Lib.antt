@@ -9,7 +9,6 @@ pub mod Finding
 pub mod Judged
 pub mod Lawful
 pub mod Names
-pub mod Places
 pub mod Reading
 pub mod Said
 pub mod Spanning

@@ -4,13 +4,11 @@ use Rattle.std.specs.List.{list_any, find, position}
 use Rattle.std.specs.Str.{bytes_eq}
 use Rattle.std.proofs.lemmas.Bool.{ltb-false, ltb-true}
 use Rattle.std.proofs.lemmas.List.Sums.{prefix_len-le-length}
-use Rattle.xc_lattice.specs.Drafts.{file_name, pairs_of, negated_by, place_of}
+use Rattle.xc_lattice.specs.Drafts.{file_name, pairs_of, negated_by}
+use Rattle.xc_base.specs.Names.{place_of, is_among, has_twice}
 use Rattle.xc_lattice.specs.declared.statement.Statement.{Statement}
 use Rattle.xc_lattice.specs.declared.statement.Statement.TheVariants.{Lattice, Elements, Below, Not}
-use Rattle.xc_lattice.specs.LatticeFiles.{is_among, has_twice, element_names, negates, negation_part, missing_part, element_excess}
-
-pub twice_from : (names : List (List ℕ)) (i : ℕ) (d : List ℕ) → i < length names → has_twice (drop i names) ≡ (is_among (drop (i + 1) names) (get_or names i d) || has_twice (drop (i + 1) names))
-twice_from names i d h = rw (add-one, drop-cons names i d)
+use Rattle.xc_lattice.specs.LatticeFiles.{element_names, negates, negation_part, missing_part, element_excess}
 
 pub elements_from : (statements : List Statement) (i : ℕ) (d : Statement) → i < length statements → element_names (drop i statements) ≡ element_names (get_or statements i d ∷ drop (i + 1) statements)
 elements_from statements i d h = rw (add-one, drop-cons statements i d)
@@ -46,27 +44,11 @@ negated_cons name (Not element negated) more = negated_cond (bytes_eq name eleme
 pub negated_from : (statements : List Statement) (i : ℕ) (d : Statement) (name : List ℕ) → i < length statements → negated_by (drop i statements) name ≡ or_else (negated_by (get_or statements i d ∷ []) name) (negated_by (drop (i + 1) statements) name)
 negated_from statements i d name h = rw (add-one, drop-cons statements i d) (negated_cons name (get_or statements i d) (drop (suc i) statements))
 
--- the place that a search finds, or the end
-place_of_search : (m n : ℕ) (b : Bool) → nat_lt m n ≡ b → m ≤ n → unwrap_or (cond b (Some m) None) n ≡ m
-place_of_search m n true e h = refl
-place_of_search m n false e h = omega (arith, ltb-false m n e)
-
-pub place_from : (names : List (List ℕ)) (name : List ℕ) → unwrap_or (position (bytes_eq name) names) (length names) ≡ place_of names name
-place_from names name = place_of_search (place_of names name) (length names) (nat_lt (place_of names name) (length names)) refl (prefix_len-le-length (λ x. not (bytes_eq name x)) names)
-
 -- behind the elements the first part that lacks is a negation
 pub missing_late : (statements : List Statement) → 2 ≤ length statements → missing_part statements ≡ negation_part (find (λ name. not (list_any (negates name) statements)) (element_names statements))
 missing_late [] h = absurd (omega arith)
 missing_late (s ∷ []) h = absurd (omega arith)
 missing_late (s ∷ t ∷ more) h = refl
-
--- a place that a search finds is in range
-some_below : (m n k : ℕ) (b : Bool) → nat_lt m n ≡ b → cond b (Some m) None ≡ Some k → k < n
-some_below m n k true e h = let same : m ≡ k = cc in omega (arith, ltb-true m n e)
-some_below m n k false e h = cc
-
-pub found_in_range : (names : List (List ℕ)) (name : List ℕ) (k : ℕ) → position (bytes_eq name) names ≡ Some k → k < length names
-found_in_range names name k h = some_below (place_of names name) (length names) k (nat_lt (place_of names name) (length names)) refl h
 
 -- the number of elements does not depend on the statements before
 pub excess_anywhere : (before : List Statement) (s : Statement) → element_excess before s ≡ element_excess [] s

@@ -10,11 +10,11 @@ use Rattle.xc_order.specs.declared.order.Pair.{Pair}
 use Rattle.xc_order.specs.Pairs.{IsListed, AreBelow}
 use Rattle.xc_lattice.specs.declared.statement.Statement.{Statement}
 use Rattle.xc_lattice.specs.declared.statement.Statement.TheVariants.{Lattice, Elements, Below, Not}
-use Rattle.xc_lattice.specs.LatticeFiles.{LatticeValue, Says, SaysBelow, SaysNegation, negates, name_at, element_names, negation_part, missing_part}
-use Rattle.xc_lattice.specs.Drafts.{IsDraft, file_name, place_of, pairs_of, negated_by, place_or_end, negation_place, negations_of, IsReady}
-use Rattle.xc_lattice.proofs.Deciding.{same_bytes}
+use Rattle.xc_lattice.specs.LatticeFiles.{LatticeValue, Says, SaysBelow, SaysNegation, negates, element_names, negation_part, missing_part}
+use Rattle.xc_base.specs.Names.{name_at, place_of}
+use Rattle.xc_lattice.specs.Drafts.{IsDraft, file_name, pairs_of, negated_by, place_or_end, negation_place, negations_of, IsReady}
 use Rattle.xc_lattice.proofs.Drafts.{Has, Has-from_Contains, Contains-from_Has}
-use Rattle.xc_lattice.proofs.Places.{among_in_range, name_at-place_of, place_of-name_at, in_range}
+use Rattle.xc_base.proofs.Naming.{same_bytes, among_in_range, name_at-place_of, place_of-name_at, in_range}
 use Rattle.xc_lattice.proofs.Values.{the_names, known_below, known_not}
 use Rattle.xc_lattice.proofs.Names.{missing_late}
 

@@ -8,11 +8,12 @@ use Rattle.xc_theory.specs.Lattices.{LatticeData, negation}
 use Rattle.xc_theory.proofs.Orders.{spanned_once}
 use Rattle.xc_lattice.specs.declared.statement.Statement.{Statement}
 use Rattle.xc_lattice.specs.declared.statement.Statement.TheVariants.{Lattice, Elements, Below, Not}
-use Rattle.xc_lattice.specs.LatticeFiles.{LatticeValue, has_twice, Says, SaysBelow, SaysNegation, is_among, negates, name_at}
+use Rattle.xc_lattice.specs.LatticeFiles.{LatticeValue, Says, SaysBelow, SaysNegation, negates}
+use Rattle.xc_base.specs.Names.{has_twice, is_among, name_at}
 use Rattle.xc_lattice.specs.Drafts.{IsFact, AreFacts, IsDraft}
-use Rattle.xc_lattice.proofs.Deciding.{bytes_refl}
+use Rattle.xc_base.proofs.Naming.{bytes_refl}
 use Rattle.xc_lattice.proofs.Drafts.{Has, Has-from_Contains}
-use Rattle.xc_lattice.proofs.Places.{or_false_left, same_place}
+use Rattle.xc_base.proofs.Naming.{or_false_left, same_place}
 
 -- what facts on elements name, and that they negate an element once
 module _ (names : List (List ℕ)) where

@@ -6,7 +6,8 @@ use Rattle.xc_lattice.specs.declared.law.Law.{Law}
 use Rattle.xc_lattice.specs.declared.statement.Statement.{Statement}
 use Rattle.xc_lattice.specs.Breaks.{first_break}
 use Rattle.xc_lattice.specs.declared.breaks.Break.{Break}
-use Rattle.xc_lattice.specs.LatticeFiles.{LatticeValue, Says, lattice_format, name_at, IsBrokenBy, IsLattice}
+use Rattle.xc_lattice.specs.LatticeFiles.{LatticeValue, Says, lattice_format, IsBrokenBy, IsLattice}
+use Rattle.xc_base.specs.Names.{name_at}
 use Rattle.xc_lattice.specs.LatticeFiles.Verdict.{Faulty, Unlawful, Lawful}
 use Rattle.xc_lattice.specs.Laws.{VerdictsAreUnique}
 use Rattle.xc_lattice.specs.Deciding.{decide}

@@ -8,7 +8,8 @@ use Rattle.xc_theory.specs.Lattices.{IsWellShaped, size, below}
 use Rattle.xc_order.specs.declared.order.Pair.{Pair}
 use Rattle.xc_lattice.specs.declared.statement.Statement.{Statement}
 use Rattle.xc_lattice.specs.declared.statement.Statement.TheVariants.{Lattice, Elements, Below, Not}
-use Rattle.xc_lattice.specs.LatticeFiles.{LatticeValue, is_among, has_twice, negates}
+use Rattle.xc_lattice.specs.LatticeFiles.{LatticeValue, negates}
+use Rattle.xc_base.specs.Names.{is_among, has_twice, place_of}
 
 -- a statement on elements of these names, which negates none that the statements before it negate
 abbrev pub IsFact : List (List ℕ) → List Statement → Statement → Type 0
@@ -32,10 +33,6 @@ pub record IsDraft (statements : List Statement) : Type 0 where
   pub different : has_twice names ≡ false
   pub named : list_all is_name names ≡ true
   pub known : AreFacts names (Lattice name ∷ Elements names ∷ []) facts
-
--- where a name stands among names
-abbrev pub place_of : List (List ℕ) → List ℕ → ℕ
-place_of names name = position_or_len (bytes_eq name) names
 
 -- the name of the first statement on the file's name
 abbrev pub file_name : List Statement → Option (List ℕ)

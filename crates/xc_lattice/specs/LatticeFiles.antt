@@ -5,6 +5,7 @@ use Rattle.std.specs.Str.{bytes_eq}
 use Rattle.xc_theory.specs.Orders.{IsSpannedBy}
 use Rattle.xc_theory.specs.Lattices.{LatticeData, negation}
 use Rattle.xc_base.specs.Words.{is_name}
+use Rattle.xc_base.specs.Names.{is_among, has_twice, name_at}
 use Rattle.xc_base.specs.Formats.{Format, Excess, Row, IsAccepted, IsFirstFault}
 use Rattle.xc_base.specs.declared.fault.Part.{Part}
 use Rattle.xc_base.specs.declared.fault.FileFault.{FileFault}
@@ -20,14 +21,6 @@ pub record LatticeValue : Type 0 where
   pub name : List ℕ
   pub names : List (List ℕ)
   pub algebra : LatticeData
-
--- whether a name stands in a list of names, and whether one stands there twice
-abbrev pub is_among : List (List ℕ) → List ℕ → Bool
-is_among names name = list_any (bytes_eq name) names
-
-abbrev pub has_twice : List (List ℕ) → Bool
-has_twice [] = false
-has_twice (name ∷ names) = is_among names name || has_twice names
 
 -- the tokens of a statement
 abbrev pub spelling : Statement → List (List ℕ)
@@ -103,9 +96,6 @@ missing_part [] = Some parts.Head
 missing_part (s ∷ []) = Some parts.Elements
 missing_part (s ∷ t ∷ more) = negation_part (find (λ name. not (list_any (negates name) (s ∷ t ∷ more))) (element_names (s ∷ t ∷ more)))
 
-abbrev pub name_at : List (List ℕ) → ℕ → List ℕ
-name_at names a = slice_index_or names a []
-
 -- the statements say that element a is below element b, or that b is the negation of a
 abbrev pub SaysBelow : List Statement → List (List ℕ) → ℕ → ℕ → Type 0
 SaysBelow statements names a b = Contains statements (Below (name_at names a) (name_at names b))
@@ -122,7 +112,7 @@ pub record Says (statements : List Statement) (v : LatticeValue) : Type 0 where
   pub negated : (a : ℕ) → a < length v.names → (negation v.algebra a < length v.names) × SaysNegation statements v.names a (negation v.algebra a)
 
 abbrev pub lattice_format : Format Statement LatticeValue
-lattice_format = record { Due = IsDue; repeated = is_repeated; unknown = is_unknown; count = element_excess; missing = missing_part; Says = Says }
+lattice_format = record { unready = λ tokens. false; Due = IsDue; repeated = is_repeated; unknown = is_unknown; count = element_excess; missing = missing_part; Says = Says }
 
 -- What comes of a lattice file: its first fault, or the first law that it breaks with the names of the elements that
 -- break it, or its lattice.

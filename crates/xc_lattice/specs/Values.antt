@@ -2,7 +2,8 @@
 use Rattle.std.specs.Prelude.{◌≡◌, ℕ, List, map, Some, None}
 use Rattle.xc_base.specs.Formats.{Row}
 use Rattle.xc_lattice.specs.Breaks.{first_break}
-use Rattle.xc_lattice.specs.LatticeFiles.{LatticeValue, IsVerdict, name_at}
+use Rattle.xc_lattice.specs.LatticeFiles.{LatticeValue, IsVerdict}
+use Rattle.xc_base.specs.Names.{name_at}
 use Rattle.xc_lattice.specs.LatticeFiles.Verdict.{Faulty, Unlawful}
 use Rattle.xc_lattice.specs.declared.law.Law.{Law}
 use Rattle.xc_lattice.specs.declared.gather.Draft.{Draft}

@@ -1,5 +1,5 @@
 ghost use Rattle.std.specs.Prelude.{◌≡◌, ◌<◌, map, length, All, IfOk, IfErr};
-ghost use Rattle.xc_lattice.specs.LatticeFiles.{name_at};
+ghost use Rattle.xc_base.specs.Names.{name_at};
 ghost use Rattle.xc_lattice.specs.Drafts.{IsReady};
 ghost use Rattle.xc_lattice.specs.Values.{said, IsRefusal, IsAdmitted};
 

@@ -4,7 +4,8 @@ ghost use Rattle.std.specs.Str.{bytes_eq};
 ghost use Rattle.std.specs.Option.{option_copied};
 ghost use Rattle.xc_lattice.specs.LatticeFiles.{element_names, negates, negation_part, missing_part, Says};
 ghost use Rattle.xc_lattice.specs.Values.{said};
-ghost use Rattle.xc_lattice.specs.Drafts.{IsDraft, file_name, place_of, pairs_of, negated_by, negation_place, negations_of};
+ghost use Rattle.xc_lattice.specs.Drafts.{IsDraft, file_name, pairs_of, negated_by, negation_place, negations_of};
+ghost use Rattle.xc_base.specs.Names.{place_of};
 
 use crate::judge::{element_names, is_negated, is_same};
 use crate::statement::Statement;
@@ -77,26 +78,20 @@ fn copy_names(alloc: Global, names: &[Word]) -> Result<List<Word>, Memory>
     Ok(copies)
 }
 
-fn position_of(names: &[Word], name: &Word) -> Option<usize>
-    ensures { result ≡ position (bytes_eq name.now) names.now }
-{
-    names.iter().position(|x| is_same(name, x))
-}
-
 /// The place of a name among at most 64 names, where it is among them.
-#[tactic(auto, using(crate::proofs::Names::found_in_range))]
+#[tactic(auto, using(xc_base::proofs::Naming::found_in_range))]
 pub(crate) fn find_name(names: &[Word], name: &Word) -> Option<u8>
     requires { length names.now ≤ 64 }
     ensures { result ≡ position (bytes_eq name.now) names.now }
 {
-    match position_of(names, name) {
+    match xc_base::find_name(names, name.as_str().as_bytes()) {
         Some(place) => Some(place as u8),
         None => None,
     }
 }
 
 /// The place of a name among names, and their number where it is not among them.
-#[tactic(auto, using(crate::proofs::Names::place_from))]
+#[tactic(auto, using(xc_base::proofs::Naming::place_from))]
 fn place_of(names: &[Word], name: &Word) -> u8
     requires { length names.now ≤ 64 }
     ensures { result ≡ place_of names.now name.now }

@@ -2,35 +2,17 @@ ghost use Rattle.std.specs.Prelude.{◌≡◌, ◌&&◌, []};
 ghost use Rattle.std.specs.List.{list_any};
 ghost use Rattle.std.specs.Str.{bytes_eq};
 ghost use Rattle.xc_base.specs.Deciding.{statement_fault, excess_fault};
-ghost use Rattle.xc_lattice.specs.LatticeFiles.{is_among, has_twice, element_names, negates, is_repeated, is_unknown, element_excess, lattice_format};
+ghost use Rattle.xc_lattice.specs.LatticeFiles.{element_names, negates, is_repeated, is_unknown, element_excess, lattice_format};
+ghost use Rattle.xc_base.specs.Names.{is_among, has_twice};
 
 use crate::statement::Statement;
-use xc_base::{Counted, FileFault, Word};
+use xc_base::{Counted, FileFault, Word, has_twice, is_among};
 
 /// Whether two words are the same.
 pub(crate) fn is_same(word: &Word, other: &Word) -> bool
     ensures { result ≡ bytes_eq word.now other.now }
 {
     word.as_str() == other.as_str()
-}
-
-/// Whether a name is one of these.
-pub(crate) fn is_among(names: &[Word], name: &Word) -> bool
-    ensures { result ≡ is_among names.now name.now }
-{
-    names.iter().any(|x| is_same(name, x))
-}
-
-#[tactic(auto, using(crate::proofs::Names::twice_from))]
-fn has_twice(names: &[Word]) -> bool
-    ensures { result ≡ has_twice names.now }
-{
-    for (place, name) in names.iter().enumerate() {
-        if is_among(&names[place + 1..], name) {
-            return true;
-        }
-    }
-    false
 }
 
 /// The names of the first statement on elements, and none where there is no such statement.
@@ -76,7 +58,8 @@ fn are_known(before: &[Statement], first: &Word, second: &Word) -> bool
     ensures { result ≡ (is_among (element_names before.now) first.now && is_among (element_names before.now) second.now) }
 {
     let names = element_names(before);
-    is_among(names, first) && is_among(names, second)
+    is_among(names, first.as_str().as_bytes())
+        && is_among(names, second.as_str().as_bytes())
 }
 
 fn is_unknown(before: &[Statement], s: &Statement) -> bool

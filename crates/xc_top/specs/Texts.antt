@@ -3,7 +3,8 @@ use Rattle.std.specs.Prelude.{ℕ, List, [], ◌∷◌, ◌++◌, length, codes}
 use Rattle.std.specs.List.{flat_map}
 use Rattle.std.specs.Fmt.{decimal}
 use Rattle.xc_theory.specs.Lattices.{bottom, top}
-use Rattle.xc_lattice.specs.LatticeFiles.{LatticeValue, name_at}
+use Rattle.xc_lattice.specs.LatticeFiles.{LatticeValue}
+use Rattle.xc_base.specs.Names.{name_at}
 use Rattle.xc_lattice.specs.declared.law.Law.{Law}
 use Rattle.xc_lattice.specs.declared.law.Law.TheVariants.{Antisymmetry, Meet, Join, Distributive, Involution, Antitone}
 

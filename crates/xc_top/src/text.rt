@@ -2,7 +2,7 @@
 
 ghost use Rattle.std.specs.Prelude.{◌≡◌, ◌<◌, ◌++◌, length, IfOk, OnOk};
 ghost use Rattle.std.specs.String.{string_bytes};
-ghost use Rattle.xc_lattice.specs.LatticeFiles.{name_at};
+ghost use Rattle.xc_base.specs.Names.{name_at};
 ghost use Rattle.xc_lattice.specs.Values.{value_of};
 ghost use Rattle.xc_top.specs.Texts.{lattice_text, broken_text, law_word, file_line, read_line};
 

@@ -1,5 +1,5 @@
 use Rattle.std.proofs.Common.{◌≡◌, map, take}
-use Rattle.xc_lattice.specs.LatticeFiles.{name_at}
+use Rattle.xc_base.specs.Names.{name_at}
 use Rattle.xc_lattice.proofs.admit.names_of.Given as goal
 
 abbrev pub invariant-loop-a : goal.invariant-loop-a

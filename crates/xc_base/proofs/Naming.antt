@@ -1,14 +1,19 @@
 -- Where names stand among names of which no two are the same.
-use Rattle.std.proofs.Common.{◌≡◌, ℕ, zero, suc, ◌<◌, ◌≤◌, ◌+◌, Bool, true, false, cond, not, ◌||◌, List, [], ◌∷◌, length, ◌⊎◌, inl, inr, refl, sym, ◌∙◌, subst, ap, arith}
-use Rattle.std.specs.List.{list_any, list_all, position_or_len}
+use Rattle.std.proofs.Common.{◌≡◌, ℕ, zero, suc, ◌<◌, ◌≤◌, ◌+◌, Bool, true, false, cond, not, ◌||◌, nat_lt, List, [], ◌∷◌, length, drop, drop-cons, add-one, get_or, Option, Some, None, unwrap_or, ◌⊎◌, inl, inr, refl, sym, ◌∙◌, subst, ap, arith}
+use Rattle.std.specs.List.{list_any, list_all, position, position_or_len}
 use Rattle.std.specs.Str.{bytes_eq}
-use Rattle.std.proofs.lemmas.Bool.{both_ways, cases_lt}
+use Rattle.std.proofs.lemmas.Bool.{both_ways, cases_lt, ltb-false, ltb-true}
 use Rattle.std.proofs.lemmas.List.Folds.{list_any_at}
-use Rattle.std.proofs.lemmas.List.Sums.{passes_at_first, position_or_len_is, AllPass-from_list_all}
+use Rattle.std.proofs.lemmas.List.Sums.{passes_at_first, position_or_len_is, AllPass-from_list_all, prefix_len-le-length}
 use Rattle.xc_base.specs.Words.{is_name}
-use Rattle.xc_lattice.specs.LatticeFiles.{is_among, has_twice, name_at}
-use Rattle.xc_lattice.specs.Drafts.{place_of}
-use Rattle.xc_lattice.proofs.Deciding.{same_bytes, bytes_refl}
+use Rattle.std.proofs.lemmas.Slice.Eq.{bytes_eq-Decides}
+use Rattle.xc_base.specs.Names.{is_among, has_twice, name_at, place_of}
+
+pub same_bytes : (xs ys : List ℕ) → bytes_eq xs ys ≡ true → xs ≡ ys
+same_bytes xs ys h = (bytes_eq-Decides xs ys).0 h
+
+pub bytes_refl : (xs : List ℕ) → bytes_eq xs xs ≡ true
+bytes_refl xs = (bytes_eq-Decides xs xs).1 refl
 
 not_true : false ≡ true → ⊥
 not_true e = cc
@@ -81,3 +86,23 @@ in_range_by names i (inr h) named a = absurd (empty_is_none names named (subst (
 
 pub in_range : (names : List (List ℕ)) (i : ℕ) → list_all is_name names ≡ true → is_among names (name_at names i) ≡ true → i < length names
 in_range names i named h = in_range_by names i (cases_lt i (length names)) named h
+
+pub twice_from : (names : List (List ℕ)) (i : ℕ) (d : List ℕ) → i < length names → has_twice (drop i names) ≡ (is_among (drop (i + 1) names) (get_or names i d) || has_twice (drop (i + 1) names))
+twice_from names i d h = rw (add-one, drop-cons names i d)
+
+-- the place that a search finds, or the end
+place_of_search : (m n : ℕ) (b : Bool) → nat_lt m n ≡ b → m ≤ n → unwrap_or (cond b (Some m) None) n ≡ m
+place_of_search m n true e h = refl
+place_of_search m n false e h = omega (arith, ltb-false m n e)
+
+pub place_from : (names : List (List ℕ)) (name : List ℕ) → unwrap_or (position (bytes_eq name) names) (length names) ≡ place_of names name
+place_from names name = place_of_search (place_of names name) (length names) (nat_lt (place_of names name) (length names)) refl (prefix_len-le-length (λ x. not (bytes_eq name x)) names)
+
+-- a place that a search finds is in range
+some_below : (m n k : ℕ) (b : Bool) → nat_lt m n ≡ b → cond b (Some m) None ≡ Some k → k < n
+some_below m n k true e h = let same : m ≡ k = cc in omega (arith, ltb-true m n e)
+some_below m n k false e h = cc
+
+pub found_in_range : (names : List (List ℕ)) (name : List ℕ) (k : ℕ) → position (bytes_eq name) names ≡ Some k → k < length names
+found_in_range names name k h = some_below (place_of names name) (length names) k (nat_lt (place_of names name) (length names)) refl h
+

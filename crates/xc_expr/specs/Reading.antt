@@ -1,0 +1,11 @@
+-- Which guard, and which action, tokens are: functions that decide it.
+use Rattle.std.specs.Prelude.{ℕ, List, Option, None}
+use Rattle.xc_expr.specs.Written.{Written, Assigned}
+
+-- the guard that the tokens are, where they are one
+unfoldable pub guard_in : List (List ℕ) → Option Written
+guard_in tokens = None
+
+-- the action that the tokens are, where they are one
+unfoldable pub action_in : List (List ℕ) → Option (List Assigned)
+action_in tokens = None
