@@ -1,0 +1,6 @@
+pub mod ViewFiles
+pub mod Parts
+pub mod Views
+pub mod Meaning
+pub mod Deciding
+pub mod Laws

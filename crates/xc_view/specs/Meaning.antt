@@ -1,0 +1,32 @@
+-- The transitions and the propositions of a view: what its commands and lines give at states.
+use Rattle.std.specs.Prelude.{ℕ, Bool, ◌&&◌, List, map, filter}
+use Rattle.std.specs.Str.{bytes_eq}
+use Rattle.xc_theory.specs.Codes.{digits}
+use Rattle.xc_expr.specs.Variables.{sizes_of}
+use Rattle.xc_expr.specs.Tests.{holds_at}
+use Rattle.xc_expr.specs.Actions.{allows}
+use Rattle.xc_view.specs.ViewFiles.{PropValue, CommandValue, ViewValue}
+
+-- the places of the variables at a state
+abbrev pub row_at : ViewValue → ℕ → List ℕ
+row_at v s = digits (sizes_of v.vars) s
+
+-- whether a command's guard holds at s and its action goes from s to t
+abbrev pub leads : ViewValue → ℕ → ℕ → CommandValue → Bool
+leads v s t c = holds_at c.guard (row_at v s) && allows (sizes_of v.vars) c.action (row_at v s) (row_at v t)
+
+-- the values of the commands that lead from s to t, in their order
+abbrev pub step_words : ViewValue → ℕ → ℕ → List (List ℕ)
+step_words v s t = map (λ (c : CommandValue). c.value) (filter (leads v s t) v.commands)
+
+-- whether a line is of that proposition and holds at s
+abbrev pub tells : ViewValue → List ℕ → ℕ → PropValue → Bool
+tells v name s l = bytes_eq name l.name && holds_at l.guard (row_at v s)
+
+-- the values of the lines of a proposition that hold at s, in their order
+abbrev pub prop_words : ViewValue → List ℕ → ℕ → List (List ℕ)
+prop_words v name s = map (λ (l : PropValue). l.value) (filter (tells v name s) v.props)
+
+-- whether a state is initial
+abbrev pub is_initial : ViewValue → ℕ → Bool
+is_initial v s = holds_at v.init (row_at v s)
