@@ -1,3 +1,4 @@
+pub mod Canonical
 pub mod Cutting
 pub mod Deciding
 pub mod Formats

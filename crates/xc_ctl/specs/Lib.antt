@@ -1,0 +1,10 @@
+pub mod Written
+pub mod Trees
+pub mod Texts
+pub mod Tables
+pub mod FormulaFiles
+pub mod Formulas
+pub mod Reading
+pub mod Frames
+pub mod Denotations
+pub mod Laws

@@ -1,0 +1,68 @@
+-- Formulas written out: with propositions and elements in place of names, and without abbreviations.
+use Rattle.std.specs.Prelude.{◌≡◌, ◌≢◌, ◌<◌, ◌≤◌, ℕ, Bool, true, ◌&&◌, not, nat_lt, nat_le, ◌==◌, List, [], ◌∷◌, length, map, Option, Some, None}
+use Rattle.std.specs.List.{list_all, position}
+use Rattle.std.specs.Option.{option_map}
+use Rattle.std.specs.Str.{bytes_eq}
+use Rattle.xc_theory.specs.Codes.{total, code_of}
+use Rattle.xc_base.specs.Names.{has_twice}
+use Rattle.xc_ctl.specs.Written.{Written, True, False, Name, Braces, SomeNext, AllNext, Implies}
+use Rattle.xc_ctl.specs.Written as written
+
+-- what formulas are about: the names of the propositions, those of the elements of each part, and the codes of the bottom
+-- and the top
+pub record Signature : Type 0 where
+  pub props : List (List ℕ)
+  pub parts : List (List (List ℕ))
+  pub bottom : ℕ
+  pub top : ℕ
+
+-- how many elements each part has
+abbrev pub sizes_of : List (List (List ℕ)) → List ℕ
+sizes_of parts = map (λ (names : List (List ℕ)). length names) parts
+
+abbrev pub is_part : List (List ℕ) → Bool
+is_part names = nat_le 2 (length names) && nat_le (length names) 64 && not (has_twice names)
+
+-- at most 256 different propositions; 1 to 8 parts of 2 to 64 different names, with at most 4,096 elements together; bottom
+-- and top are two different ones of these
+abbrev pub is_fit : Signature → Bool
+is_fit n =
+    nat_le (length n.props) 256 && not (has_twice n.props)
+    && nat_le 1 (length n.parts) && nat_le (length n.parts) 8 && list_all is_part n.parts && nat_le (total (sizes_of n.parts)) 4096
+    && nat_lt n.bottom (total (sizes_of n.parts)) && nat_lt n.top (total (sizes_of n.parts)) && not (n.bottom == n.top)
+
+pub data Tree : Type 0 where
+  Const : ℕ → Tree
+  Atom : ℕ → Tree
+  Not : Tree → Tree
+  And : Tree → Tree → Tree
+  Or : Tree → Tree → Tree
+  Ex : Tree → Tree
+
+abbrev pub both : {X Y Z : Type 0} → (X → Y → Z) → Option X → Option Y → Option Z
+both f None o = None
+both f (Some x) None = None
+both f (Some x) (Some y) = Some (f x y)
+
+-- the elements of these names, one of each part
+abbrev pub digits_named : List (List (List ℕ)) → List (List ℕ) → Option (List ℕ)
+digits_named [] [] = Some []
+digits_named [] (v ∷ values) = None
+digits_named (names ∷ parts) [] = None
+digits_named (names ∷ parts) (v ∷ values) = both (λ digit row. digit ∷ row) (position (bytes_eq v) names) (digits_named parts values)
+
+abbrev pub element_named : List (List (List ℕ)) → List (List ℕ) → Option ℕ
+element_named parts values = option_map (code_of (sizes_of parts)) (digits_named parts values)
+
+-- A formula written out, where its names are known: `AX f` is `!EX!f`, and `a -> b` is `!a | b`.
+abbrev pub resolved : Signature → Written → Option Tree
+resolved n True = Some (Const n.top)
+resolved n False = Some (Const n.bottom)
+resolved n (Name p) = option_map Atom (position (bytes_eq p) n.props)
+resolved n (Braces values) = option_map Const (element_named n.parts values)
+resolved n (written.Not f) = option_map Not (resolved n f)
+resolved n (SomeNext f) = option_map Ex (resolved n f)
+resolved n (AllNext f) = option_map (λ t. Not (Ex (Not t))) (resolved n f)
+resolved n (written.And f g) = both And (resolved n f) (resolved n g)
+resolved n (written.Or f g) = both Or (resolved n f) (resolved n g)
+resolved n (Implies f g) = both (λ s t. Or (Not s) t) (resolved n f) (resolved n g)
