@@ -3,8 +3,10 @@
 
 mod formula;
 mod kind;
+mod laws;
 mod reader;
 
 pub use formula::{Formula, Formulas};
 pub use kind::Kind;
+pub use laws::formulas_have_one_denotation;
 pub use reader::read_formulas;

@@ -11,7 +11,7 @@ use Rattle.xc_order.specs.Pairs.{IsListed, AreBelow}
 use Rattle.xc_lattice.specs.declared.statement.Statement.{Statement}
 use Rattle.xc_lattice.specs.declared.statement.Statement.TheVariants.{Lattice, Elements, Below, Not}
 use Rattle.xc_lattice.specs.LatticeFiles.{LatticeValue, Says, SaysBelow, SaysNegation, negates, element_names, negation_part, missing_part}
-use Rattle.xc_base.specs.Names.{name_at, place_of}
+use Rattle.xc_base.specs.Names.{has_twice, name_at, place_of}
 use Rattle.xc_lattice.specs.Drafts.{IsDraft, file_name, pairs_of, negated_by, place_or_end, negation_place, negations_of, IsReady}
 use Rattle.xc_lattice.proofs.Drafts.{Has, Has-from_Contains, Contains-from_Has}
 use Rattle.xc_base.proofs.Naming.{same_bytes, among_in_range, name_at-place_of, place_of-name_at, in_range}
@@ -249,6 +249,7 @@ IsReady-from_Says ss d v h =
       reflexive = λ a within. spanned_refl (length v.names) (SaysBelow ss v.names) v.algebra.order h.order a (omega arith);
       transitive = λ a b c a_in b_in c_in. spanned_trans (length v.names) (SaysBelow ss v.names) v.algebra.order h.order a b c (omega arith) (omega arith) (omega arith);
       named = sym n;
+      different = subst (λ (ns : List (List ℕ)). has_twice ns ≡ false) names d.different;
       some = omega (arith, d.some);
       few = omega (arith, d.few);
     }

@@ -1,4 +1,5 @@
-ghost use Rattle.std.specs.Prelude.{◌≡◌, ◌≤◌, length};
+ghost use Rattle.std.specs.Prelude.{◌≡◌, ◌≤◌, false, length};
+ghost use Rattle.xc_base.specs.Names.{has_twice};
 ghost use Rattle.xc_theory.specs.Lattices.{IsLawful};
 
 use crate::gather::find_name;
@@ -16,6 +17,7 @@ pub struct Lattice {
     negations: List<u8>,
     ghost lawful: { IsLawful (record { order = order; negations = negations }) },
     ghost named: { length names ≡ length order },
+    ghost different: { has_twice names ≡ false },
     ghost some: { 2 ≤ length order },
     ghost few: { length order ≤ 64 },
 }
@@ -33,6 +35,7 @@ impl Lattice {
     pub(crate) fn of(name: Word, names: List<Word>, order: Order, negations: List<u8>) -> Lattice
         requires lawful { IsLawful (record { order = order; negations = negations }) }
         requires named { length names ≡ length order }
+        requires different { has_twice names ≡ false }
         requires some { 2 ≤ length order }
         requires few { length order ≤ 64 }
         ensures { value_of result
@@ -53,9 +56,10 @@ impl Lattice {
         &self.name
     }
 
-    /// The names of its elements, in order.
+    /// The names of its elements, in order. No two are the same.
     pub fn names(&self) -> &List<Word>
-        ensures { result.now ≡ (value_of self.now).names }
+        ensures names { result.now ≡ (value_of self.now).names }
+        ensures different { has_twice (value_of self.now).names ≡ false }
     {
         &self.names
     }

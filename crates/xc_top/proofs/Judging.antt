@@ -1,46 +1,58 @@
--- What comes of a text that is cut and read.
-use Rattle.std.proofs.Common.{◌≡◌, ℕ, List, map, None, Result, Ok, Err, MatchOption, sym, ap, subst}
-use Rattle.xc_base.specs.Text.{text_fault, rows_of}
-use Rattle.xc_base.specs.Lines.{rows_in, row_of, text_rows}
-use Rattle.xc_base.specs.declared.lines.Line.{Line}
-use Rattle.xc_base.specs.declared.lines.Lines.{Lines}
-use Rattle.xc_base.specs.declared.fault.FileFault.{FileFault}
-use Rattle.xc_lattice.specs.LatticeFiles.{LatticeValue, Verdict, Faulty, Unlawful, Lawful, IsVerdict}
-use Rattle.xc_lattice.specs.declared.law.Law.{Law}
+-- What comes of the rows of a lattice file.
+use Rattle.std.proofs.Common.{◌≡◌, ℕ, List, Result, Ok, Err, ap}
 use Rattle.std.specs.String.{string_bytes}
-use Rattle.xc_top.specs.Working.{ComesTo, outcome_of}
-use Rattle.xc_top.specs.declared.prepare.Answer.{Answer}
+use Rattle.xc_base.specs.Formats.{Row}
+use Rattle.xc_base.specs.declared.fault.FileFault.{FileFault}
+use Rattle.xc_lattice.specs.LatticeFiles.{LatticeValue, Faulty, Unlawful, Lawful, IsVerdict}
+use Rattle.xc_lattice.specs.declared.law.Law.{Law}
+use Rattle.xc_base.specs.declared.shelf.File.{File}
+use Rattle.xc_base.specs.Shelves.{Told, Shelved, IsLoaded}
+use Rattle.xc_top.specs.Requests.{LatticeOf}
+use Rattle.xc_top.specs.Texts.{broken_text, file_line}
+use Rattle.xc_top.specs.Outcomes.{Event, HasText, Refusal, Served, Ending, Cuts, file_limit, JudgesLattice, IsCourse}
+use Rattle.xc_top.specs.Working.{ComesTo, Comes, IsCut, IsCutHalt, IsLoadHalt, IsPrepared, outcome_of}
+use Rattle.xc_top.specs.declared.answer.Answer.{Answer}
 use Rattle.xc_top.specs.declared.halt.Halt.{Halt}
 use Rattle.xc_top.specs.declared.halt.Halt.TheVariants.{Words, Refused, ReadFault, WriteFault, Memory}
-use Rattle.xc_top.specs.Texts.{broken_text, file_line}
-use Rattle.xc_top.specs.Outcomes.{HasText, Outcome, Refusal, Served, file_limit, LatticeTasks, JudgesLattice, ComesOf}
 use Rattle.xc_top.specs.declared.status.Status.TheVariants.{No}
+use Rattle.xc_top.proofs.Courses.{cut_stops, cut_comes_to, load_halted, load_comes_to}
 
--- the verdict on the rows of a text without fault is that of the file
-pub comes_of_rows : (name bytes : List ℕ) (lines : Lines) (verdict : Verdict) (outcome : Outcome) → text_fault file_limit bytes ≡ None → lines.source.now ≡ bytes → lines.rows ≡ rows_of bytes → IsVerdict (rows_in lines) verdict → ComesOf name verdict outcome → LatticeTasks name bytes outcome
-comes_of_rows name bytes lines verdict outcome sound source rows judged comes =
-    subst (λ fault. MatchOption fault (JudgesLattice name (text_rows bytes) outcome) (λ f. outcome ≡ Refusal (file_line name))) (sym sound)
-    (record {
-      verdict = verdict;
-      judged = subst (λ (ls : List Line). IsVerdict (map (row_of bytes) ls) verdict) rows (subst (λ (b : List ℕ). IsVerdict (map (row_of b) lines.rows) verdict) source judged);
-      comes = comes;
-    })
+pub judged_no : (name : List ℕ) (rows : List Row) (law : Law) (names : List (List ℕ)) (text : List ℕ) → IsVerdict rows (Unlawful law names) → text ≡ broken_text law names → JudgesLattice name rows (Served No text)
+judged_no name rows law names text judged is = record { verdict = Unlawful law names; judged = judged; comes = ap (Served No) is }
 
-pub comes_to_no : (name bytes : List ℕ) (lines : Lines) (law : Law) (names : List (List ℕ)) (text : List ℕ) → text_fault file_limit bytes ≡ None → lines.source.now ≡ bytes → lines.rows ≡ rows_of bytes → IsVerdict (rows_in lines) (Unlawful law names) → text ≡ broken_text law names → LatticeTasks name bytes (Served No text)
-comes_to_no name bytes lines law names text sound source rows judged is =
-    comes_of_rows name bytes lines (Unlawful law names) (Served No text) sound source rows judged
-    (ap (Served No) is)
-
-pub comes_to_refusal : (name bytes : List ℕ) (lines : Lines) (fault : FileFault) (line : List ℕ) → text_fault file_limit bytes ≡ None → lines.source.now ≡ bytes → lines.rows ≡ rows_of bytes → IsVerdict (rows_in lines) (Faulty fault) → line ≡ file_line name → LatticeTasks name bytes (Refusal line)
-comes_to_refusal name bytes lines fault line sound source rows judged is =
-    comes_of_rows name bytes lines (Faulty fault) (Refusal line) sound source rows judged
-    (ap Refusal is)
+pub judged_refusal : (name : List ℕ) (rows : List Row) (fault : FileFault) (line : List ℕ) → IsVerdict rows (Faulty fault) → line ≡ file_line name → JudgesLattice name rows (Refusal line)
+judged_refusal name rows fault line judged is = record { verdict = Faulty fault; judged = judged; comes = ap Refusal is }
 
 -- what a lattice's text is comes of its file
-pub comes_to_text : (name bytes : List ℕ) (lines : Lines) (v : LatticeValue) (result : Result Answer Halt) → text_fault file_limit bytes ≡ None → lines.source.now ≡ bytes → lines.rows ≡ rows_of bytes → IsVerdict (rows_in lines) (Lawful v) → ComesTo (HasText v) result → ComesTo (LatticeTasks name bytes) result
-comes_to_text name bytes lines v (Ok answer) sound source rows judged text = comes_of_rows name bytes lines (Lawful v) (outcome_of answer) sound source rows judged text
-comes_to_text name bytes lines v (Err (Refused line)) sound source rows judged text = comes_of_rows name bytes lines (Lawful v) (Refusal (string_bytes line)) sound source rows judged text
-comes_to_text name bytes lines v (Err Memory) sound source rows judged text = tt
-comes_to_text name bytes lines v (Err Words) sound source rows judged text = text
-comes_to_text name bytes lines v (Err (ReadFault line)) sound source rows judged text = text
-comes_to_text name bytes lines v (Err WriteFault) sound source rows judged text = text
+pub judged_text : (name : List ℕ) (rows : List Row) (v : LatticeValue) (result : Result Answer Halt) → IsVerdict rows (Lawful v) → ComesTo (HasText v) result → ComesTo (JudgesLattice name rows) result
+judged_text name rows v (Ok answer) judged text = record { verdict = Lawful v; judged = judged; comes = text }
+judged_text name rows v (Err (Refused line)) judged text = record { verdict = Lawful v; judged = judged; comes = text }
+judged_text name rows v (Err Memory) judged text = tt
+judged_text name rows v (Err Words) judged text = text
+judged_text name rows v (Err (ReadFault line)) judged text = text
+judged_text name rows v (Err WriteFault) judged text = text
+
+-- the bytes of a lattice file
+module _ (name bytes : List ℕ) where
+  judging : List Row → (ℕ → List File) → Event → Type 0
+  judging rows moments = Ending (JudgesLattice name rows)
+
+  judged_all : (rows : List Row) (result : Result Answer Halt) → ComesTo (JudgesLattice name rows) result → Comes (judging rows) result
+  judged_all rows (Ok answer) h = λ m. h
+  judged_all rows (Err (Refused line)) h = λ m. h
+  judged_all rows (Err Memory) h = tt
+  judged_all rows (Err Words) h = h
+  judged_all rows (Err (ReadFault line)) h = h
+  judged_all rows (Err WriteFault) h = h
+
+  pub bytes_judged : (rows : List Row) (result : Result Answer Halt) → IsCut bytes rows → ComesTo (JudgesLattice name rows) result → Comes (Cuts name (λ rs moments. Ending (JudgesLattice name rs)) bytes) result
+  bytes_judged rows result cut h = cut_comes_to name bytes (λ rs moments. Ending (JudgesLattice name rs)) rows result cut (judged_all rows result h)
+
+  pub bytes_refused : (halt : Halt) → IsCutHalt name bytes halt → Comes (Cuts name (λ rs moments. Ending (JudgesLattice name rs)) bytes) (Err halt)
+  bytes_refused halt stopped = cut_stops name bytes (λ rs moments. Ending (JudgesLattice name rs)) halt stopped
+
+pub lattice_loaded : (name bytes : List ℕ) (before shelf : Shelved) (result : Result Answer Halt) → IsLoaded before.told name file_limit bytes → Comes (Cuts name (λ rs moments. Ending (JudgesLattice name rs)) bytes) result → IsPrepared (IsCourse (LatticeOf name)) before shelf result
+lattice_loaded name bytes before shelf result loaded h = load_comes_to name (λ rs moments. Ending (JudgesLattice name rs)) bytes before shelf result loaded h
+
+pub lattice_not_loaded : (name : List ℕ) (shelf shelf_after : Shelved) (halt : Halt) → IsLoadHalt name shelf shelf_after halt → IsPrepared (IsCourse (LatticeOf name)) shelf shelf_after (Err halt)
+lattice_not_loaded name shelf shelf_after halt stopped = load_halted name (λ rs moments. Ending (JudgesLattice name rs)) shelf shelf_after halt stopped

@@ -2,10 +2,10 @@
 use Rattle.std.specs.Prelude.{ℕ, List}
 use Rattle.std.specs.String.{string_bytes}
 use Rattle.xc_top.specs.Requests as spec
-use Rattle.xc_top.specs.Requests.{LatticeOf}
+use Rattle.xc_top.specs.Requests.{LatticeOf, CheckOf}
 use Rattle.xc_top.specs.Texts.{words_line, write_line, memory_line}
 use Rattle.xc_top.specs.declared.request.Request.{Request}
-use Rattle.xc_top.specs.declared.request.Request.TheVariants.{Lattice}
+use Rattle.xc_top.specs.declared.request.Request.TheVariants.{Lattice, Check}
 use Rattle.xc_top.specs.declared.halt.Halt.{Halt}
 use Rattle.xc_top.specs.declared.halt.Halt.TheVariants as halts
 use Rattle.xc_top.specs.declared.status.Status.{Status}
@@ -13,6 +13,7 @@ use Rattle.xc_top.specs.declared.status.Status.TheVariants.{Words, Refused, Read
 
 abbrev pub asked : Request → spec.Request
 asked (Lattice file) = LatticeOf file.now
+asked (Check view formulas) = CheckOf view.now formulas.now
 
 -- the status of a halt, and its line for err
 abbrev pub halt_status : Halt → Status

@@ -4,7 +4,7 @@ use Rattle.std.specs.Prelude.{◌≡◌, ◌≢◌, ℕ, Bool, true, false, List
 use Rattle.xc_base.specs.Shelves.{Told, Shelved, HasRisen, has_risen}
 use Rattle.xc_base.specs.Sinks.{Sunk, AddsWhole, AddsPart, AddsFront, AddsNothing}
 use Rattle.xc_base.specs.declared.shelf.File.{File}
-use Rattle.xc_top.specs.Outcomes.{Outcome, Absent, Refusal, Served, IsOutcome, IsReached}
+use Rattle.xc_top.specs.Outcomes.{Event, Ends, Loading, Outcome, Absent, Refusal, Served, always, IsCourse, IsOutcome, IsReached}
 use Rattle.xc_top.specs.Requests.{Request, request_of}
 use Rattle.xc_top.specs.Texts.{words_line, read_line, write_line, memory_line}
 use Rattle.xc_top.specs.declared.status.Status.{Status}
@@ -47,20 +47,20 @@ pub record AnswersService (words : List (List ℕ)) (shelf : Shelved) (old new :
   pub done : status ≡ Done → ForOutcome words shelf (IsServed (λ s text. (s ≡ Done) × AddsWhole text old.bytes new.bytes))
   pub no : status ≡ No → ForOutcome words shelf (IsServed (λ s text. (s ≡ No) × AddsWhole text old.bytes new.bytes))
 
--- One load failed, of a name that the request reaches over some files, and P holds of the name. Where files are told it is
--- reached over those, and is the one name that joined the failed ones.
-pub record FailedOnce (request : Request) (shelf shelf_after : Shelved) (P : List ℕ → Type 0) : Type 0 where
+-- One load failed, of a name that the course reaches where each load finds some files, and P holds of the name. Where files
+-- are told it is reached over those, and is the one name that joined the failed ones.
+pub record FailedOnce (Course : (ℕ → List File) → Event → Type 0) (shelf shelf_after : Shelved) (P : List ℕ → Type 0) : Type 0 where
   pub name : List ℕ
-  pub files : List File
-  pub reached : IsReached request files name
+  pub moments : ℕ → List File
+  pub reached : Course moments (Loading name)
   pub told : P name
-  pub failed : IfSome shelf.told (λ told. IsReached request told.files name × (shelf_after.told ≡ Some (record told { failed = told.failed ++ name ∷ [] })))
+  pub failed : IfSome shelf.told (λ told. Course (always told.files) (Loading name) × (shelf_after.told ≡ Some (record told { failed = told.failed ++ name ∷ [] })))
 
 -- Where the status is ReadFault, the shelf's count of faults rose, by one failed load that err's line names, and nothing is
 -- written to out.
 pub record AnswersReadFault (words : List (List ℕ)) (shelf shelf_after : Shelved) (old new err err_after : Sunk) (status : Status) : Type 0 where
   pub counted : status ≡ ReadFault → HasRisen shelf.faults shelf_after.faults
-  pub once : status ≡ ReadFault → IfSome (request_of words) (λ request. FailedOnce request shelf shelf_after (λ name. GetsLine (read_line name) err err_after))
+  pub once : status ≡ ReadFault → IfSome (request_of words) (λ request. FailedOnce (IsCourse request) shelf shelf_after (λ name. GetsLine (read_line name) err err_after))
   pub out : status ≡ ReadFault → AddsNothing old.bytes new.bytes
 
 -- Where the status is WriteFault, out's count of faults rose, the outcome is served, and out has a front of its text but not
@@ -97,15 +97,15 @@ pub record IsComplete (words : List (List ℕ)) (shelf shelf_after : Shelved) (o
   pub steady : has_risen shelf.faults shelf_after.faults ≡ false → has_risen old.faults new.faults ≡ false → status ≢ Memory → ForOutcome words shelf (λ outcome. is_absent outcome ≡ false → status ≡ status_of outcome)
   pub absent : status ≢ Memory → ForOutcome words shelf (λ outcome. is_absent outcome ≡ true → status ≡ ReadFault)
 
--- over some files the outcome is a refusal with that line
+-- where each load finds some files, the outcome is a refusal with that line
 pub record MayRefuse (words : List (List ℕ)) (line : List ℕ) : Type 0 where
-  pub files : List File
-  pub refused : IsOutcome words files (Refusal line)
+  pub moments : ℕ → List File
+  pub refused : MatchOption (request_of words) ⊥ (λ request. IsCourse request moments (Ends (Refusal line)))
 
--- over some files a load of that name is reached
+-- where each load finds some files, a load of that name is reached
 pub record MayLoad (words : List (List ℕ)) (name : List ℕ) : Type 0 where
-  pub files : List File
-  pub reached : MatchOption (request_of words) ⊥ (λ request. IsReached request files name)
+  pub moments : ℕ → List File
+  pub reached : MatchOption (request_of words) ⊥ (λ request. IsReached request moments name)
 
 -- nothing is written to err where the request is served, and else the one line of the status
 abbrev pub GetsLineOf : List (List ℕ) → Sunk → Sunk → Status → Type 0

@@ -35,6 +35,20 @@ words_line = line (codes "refused words")
 abbrev pub file_line : List ℕ → List ℕ
 file_line name = line (codes "refused file " ++ name)
 
+-- for a lattice that breaks a law, where the request is not for it alone; for a value that is no element of the lattice of a
+-- view; for a form of formulas that is not read yet; and for too many states
+abbrev pub broken_line : List ℕ → Law → List (List ℕ) → List ℕ
+broken_line file law names = line (codes "refused broken " ++ file ++ 32 ∷ law_word law ++ flat_map (λ name. 32 ∷ name) names)
+
+abbrev pub value_line : List ℕ → List ℕ → List ℕ
+value_line view word = line (codes "refused value " ++ view ++ 32 ∷ word)
+
+abbrev pub not_yet_line : List ℕ → ℕ → List ℕ
+not_yet_line file number = line (codes "refused notyet " ++ file ++ 32 ∷ decimal number)
+
+abbrev pub states_line : ℕ → List ℕ
+states_line count = line (codes "refused states " ++ decimal count)
+
 abbrev pub read_line : List ℕ → List ℕ
 read_line name = line (codes "fault read " ++ name)
 

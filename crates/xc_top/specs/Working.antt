@@ -1,19 +1,28 @@
 -- What the parts of `run` do. No public clause rests on these words.
-use Rattle.std.specs.Prelude.{◌≡◌, ℕ, List, [], ◌∷◌, ◌++◌, Option, option_map, None, IsSome, IfSome, Result, Ok, Err}
+use Rattle.std.specs.Prelude.{◌≡◌, ◌≤◌, ℕ, List, [], ◌∷◌, ◌++◌, Option, option_map, Some, None, IsSome, IfSome, Result, Ok, Err}
+use Rattle.xc_base.specs.Formats.{Row, IsFirstFault}
+use Rattle.xc_base.specs.Lines.{text_rows}
+use Rattle.xc_base.specs.Text.{text_fault}
+use Rattle.xc_base.specs.declared.fault.FileFault.{FileFault}
+use Rattle.xc_lattice.specs.LatticeFiles.{LatticeValue, Verdict, Faulty, Unlawful, Lawful, IsVerdict}
+use Rattle.xc_view.specs.ViewFiles.{ViewValue, view_format}
+use Rattle.xc_ctl.specs.Trees.{Signature}
+use Rattle.xc_ctl.specs.FormulaFiles.{formula_format}
 use Rattle.std.specs.String.{string_bytes}
 use Rattle.xc_base.specs.Shelves.{Told, Shelved, HasRisen}
 use Rattle.xc_base.specs.declared.shelf.File.{File}
-use Rattle.xc_top.specs.Outcomes.{Outcome, Refusal, Served, IsCourse}
+use Rattle.xc_top.specs.Outcomes.{Event, Ends, Outcome, Refusal, Served, always, file_limit, formula_line, IsCourse}
 use Rattle.xc_top.specs.Requests.{Request, request_of}
-use Rattle.xc_top.specs.Texts.{read_line}
+use Rattle.xc_top.specs.Texts.{read_line, file_line, broken_line, value_line}
+use Rattle.xc_top.specs.Checks.{unknown_value}
 use Rattle.xc_top.specs.Headline.{FailedOnce, ForOutcome, IsServed, IsRefusal, MayRefuse, MayLoad, AddsAtMost, GetsLine}
 use Rattle.xc_top.specs.Asked.{halt_status, halt_line}
 use Rattle.xc_base.specs.Sinks.{Sunk, AddsWhole, AddsPart, AddsNothing}
 use Rattle.xc_top.specs.declared.halt.Halt.{Halt}
 use Rattle.xc_top.specs.declared.halt.Halt.TheVariants.{Words, Refused, ReadFault, WriteFault, Memory}
-use Rattle.xc_top.specs.declared.prepare.Answer.{Answer}
-use Rattle.xc_top.specs.declared.prepare.Passed.{Passed}
-use Rattle.xc_top.specs.declared.prepare.Passed.TheVariants as passed
+use Rattle.xc_top.specs.declared.answer.Answer.{Answer}
+use Rattle.xc_top.specs.declared.answer.Passed.{Passed}
+use Rattle.xc_top.specs.declared.answer.Passed.TheVariants as passed
 use Rattle.xc_top.specs.declared.status.Status.{Status}
 use Rattle.xc_top.specs.declared.status.Status.TheVariants.{Done, No}
 
@@ -33,6 +42,10 @@ ComesTo P (Err Words) = ⊥
 ComesTo P (Err (ReadFault line)) = ⊥
 ComesTo P (Err WriteFault) = ⊥
 
+-- the work comes to an end of the course, whatever the loads behind it find
+abbrev pub Comes : ((ℕ → List File) → Event → Type 0) → Result Answer Halt → Type 0
+Comes Course result = ComesTo (λ outcome. (moments : ℕ → List File) → Course moments (Ends outcome)) result
+
 -- A load failed of that name: its line for err names it, and where files are told so are the failed names.
 pub record FailedAt (name : List ℕ) (shelf shelf_after : Shelved) (line : List ℕ) : Type 0 where
   pub named : line ≡ read_line name
@@ -46,19 +59,19 @@ IsLoadHalt name shelf shelf_after Words = ⊥
 IsLoadHalt name shelf shelf_after (Refused line) = ⊥
 IsLoadHalt name shelf shelf_after WriteFault = ⊥
 
--- the request's outcome over some files is a refusal with that line
-pub record CanRefuse (request : Request) (line : List ℕ) : Type 0 where
-  pub files : List File
-  pub refused : IsCourse request files (Refusal line)
+-- where each load finds some files, the course ends with a refusal with that line
+pub record CanRefuse (Course : (ℕ → List File) → Event → Type 0) (line : List ℕ) : Type 0 where
+  pub moments : ℕ → List File
+  pub refused : Course moments (Ends (Refusal line))
 
--- what became of a request: where files are told, an answer or a refusal is its outcome
-abbrev pub IsPrepared : Request → Shelved → Shelved → Result Answer Halt → Type 0
-IsPrepared request shelf shelf_after (Ok answer) = IfSome shelf.told (λ told. IsCourse request told.files (outcome_of answer))
-IsPrepared request shelf shelf_after (Err (Refused line)) = CanRefuse request (string_bytes line) × IfSome shelf.told (λ told. IsCourse request told.files (Refusal (string_bytes line)))
-IsPrepared request shelf shelf_after (Err (ReadFault line)) = HasRisen shelf.faults shelf_after.faults × FailedOnce request shelf shelf_after (λ name. string_bytes line ≡ read_line name)
-IsPrepared request shelf shelf_after (Err Memory) = Unit {0}
-IsPrepared request shelf shelf_after (Err Words) = ⊥
-IsPrepared request shelf shelf_after (Err WriteFault) = ⊥
+-- what became of a course: where files are told, an answer or a refusal is its end
+abbrev pub IsPrepared : ((ℕ → List File) → Event → Type 0) → Shelved → Shelved → Result Answer Halt → Type 0
+IsPrepared Course shelf shelf_after (Ok answer) = IfSome shelf.told (λ told. Course (always told.files) (Ends (outcome_of answer)))
+IsPrepared Course shelf shelf_after (Err (Refused line)) = CanRefuse Course (string_bytes line) × IfSome shelf.told (λ told. Course (always told.files) (Ends (Refusal (string_bytes line))))
+IsPrepared Course shelf shelf_after (Err (ReadFault line)) = HasRisen shelf.faults shelf_after.faults × FailedOnce Course shelf shelf_after (λ name. string_bytes line ≡ read_line name)
+IsPrepared Course shelf shelf_after (Err Memory) = Unit {0}
+IsPrepared Course shelf shelf_after (Err Words) = ⊥
+IsPrepared Course shelf shelf_after (Err WriteFault) = ⊥
 
 -- writing stopped: out has a front of the text that lacks something
 abbrev pub IsWriteHalt : List ℕ → Sunk → Sunk → Halt → Type 0
@@ -79,7 +92,7 @@ abbrev pub IsWorked : List (List ℕ) → Shelved → Shelved → Sunk → Sunk 
 IsWorked words shelf shelf_after old new (Ok passed) = IsSome (request_of words) × ForOutcome words shelf (IsServed (λ status text. (status ≡ passed_status passed) × AddsWhole text old.bytes new.bytes))
 IsWorked words shelf shelf_after old new (Err Words) = (request_of words ≡ None) × AddsNothing old.bytes new.bytes
 IsWorked words shelf shelf_after old new (Err (Refused line)) = IsSome (request_of words) × MayRefuse words (string_bytes line) × ForOutcome words shelf (IsRefusal (λ l. string_bytes line ≡ l)) × AddsNothing old.bytes new.bytes
-IsWorked words shelf shelf_after old new (Err (ReadFault line)) = IsSome (request_of words) × NamesLoad words (string_bytes line) × HasRisen shelf.faults shelf_after.faults × IfSome (request_of words) (λ request. FailedOnce request shelf shelf_after (λ name. string_bytes line ≡ read_line name)) × AddsNothing old.bytes new.bytes
+IsWorked words shelf shelf_after old new (Err (ReadFault line)) = IsSome (request_of words) × NamesLoad words (string_bytes line) × HasRisen shelf.faults shelf_after.faults × IfSome (request_of words) (λ request. FailedOnce (IsCourse request) shelf shelf_after (λ name. string_bytes line ≡ read_line name)) × AddsNothing old.bytes new.bytes
 IsWorked words shelf shelf_after old new (Err WriteFault) = IsSome (request_of words) × HasRisen old.faults new.faults × ForOutcome words shelf (IsServed (λ status text. AddsPart text old.bytes new.bytes))
 IsWorked words shelf shelf_after old new (Err Memory) = ForOutcome words shelf (AddsAtMost old.bytes new.bytes) × (request_of words ≡ None → AddsNothing old.bytes new.bytes)
 
@@ -101,3 +114,57 @@ ended (Err halt) = halt_status halt
 abbrev pub TellsErr : Result Passed Halt → Sunk → Sunk → Type 0
 TellsErr (Ok passed) err err_after = AddsNothing err.bytes err_after.bytes
 TellsErr (Err halt) err err_after = GetsLine (halt_line halt) err err_after
+
+-- the count of faults does not fall
+abbrev pub CountsOn : Shelved → Shelved → Type 0
+CountsOn shelf shelf_after = shelf.faults ≤ shelf_after.faults
+
+-- a text that is cut: it has no fault, and its rows are those
+pub record IsCut (bytes : List ℕ) (rows : List Row) : Type 0 where
+  pub sound : text_fault file_limit bytes ≡ None
+  pub same : rows ≡ text_rows bytes
+
+-- why a text is not cut
+abbrev pub IsCutHalt : List ℕ → List ℕ → Halt → Type 0
+IsCutHalt name bytes (Refused line) = IsSome (text_fault file_limit bytes) × (string_bytes line ≡ file_line name)
+IsCutHalt name bytes Memory = Unit {0}
+IsCutHalt name bytes Words = ⊥
+IsCutHalt name bytes (ReadFault line) = ⊥
+IsCutHalt name bytes WriteFault = ⊥
+
+-- why a step of the work that loads nothing halts: it refuses, with a line of which P holds
+abbrev pub IsRefusalHalt : (List ℕ → Type 0) → Halt → Type 0
+IsRefusalHalt P (Refused line) = P (string_bytes line)
+IsRefusalHalt P Memory = Unit {0}
+IsRefusalHalt P Words = ⊥
+IsRefusalHalt P (ReadFault line) = ⊥
+IsRefusalHalt P WriteFault = ⊥
+
+-- the rows have a first fault, and the line is that of the file
+pub record IsViewRefusal (name : List ℕ) (rows : List Row) (line : List ℕ) : Type 0 where
+  pub fault : FileFault
+  pub first : IsFirstFault view_format rows fault
+  pub told : line ≡ file_line name
+
+-- the line for a lattice file that is not used
+abbrev pub IsRefusedVerdict : List ℕ → Verdict → List ℕ → Type 0
+IsRefusedVerdict name (Faulty fault) line = line ≡ file_line name
+IsRefusedVerdict name (Unlawful law names) line = line ≡ broken_line name law names
+IsRefusedVerdict name (Lawful l) line = ⊥
+
+pub record IsLatticeRefusal (name : List ℕ) (rows : List Row) (line : List ℕ) : Type 0 where
+  pub verdict : Verdict
+  pub judged : IsVerdict rows verdict
+  pub told : IsRefusedVerdict name verdict line
+
+-- a value is no element, and the line names it
+pub record IsValueRefusal (v : ViewValue) (l : LatticeValue) (line : List ℕ) : Type 0 where
+  pub word : List ℕ
+  pub unknown : unknown_value v l ≡ Some word
+  pub told : line ≡ value_line v.name word
+
+-- the rows have a first fault, and the line is its
+pub record IsFormulaRefusal (name : List ℕ) (signature : Signature) (rows : List Row) (line : List ℕ) : Type 0 where
+  pub fault : FileFault
+  pub first : IsFirstFault (formula_format signature) rows fault
+  pub told : line ≡ formula_line name fault

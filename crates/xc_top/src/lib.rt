@@ -1,10 +1,15 @@
 //! The program: what the words ask for, from the files to the text that is written.
 #![tactic(auto)]
 
+mod answer;
+mod check;
 mod halt;
+mod load;
+mod lookup;
 mod outcome;
 mod prepare;
 mod program;
+mod report;
 mod request;
 mod status;
 mod text;

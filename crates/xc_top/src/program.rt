@@ -4,8 +4,9 @@ ghost use Rattle.xc_base.specs.Sinks.{AddsWhole};
 ghost use Rattle.xc_top.specs.Headline.{AnswersNoRequest, AnswersRefusal, AnswersService, AnswersReadFault, AnswersWriteFault, AnswersMemory, IsComplete, KeepsTheRest, TellsSame, GetsLine};
 ghost use Rattle.xc_top.specs.Working.{IsWriteHalt, IsWorked, LeavesShelf};
 
+use crate::answer::{Answer, Passed};
 use crate::halt::Halt;
-use crate::prepare::{Answer, Passed, prepare};
+use crate::prepare::prepare;
 use crate::request::requested;
 use crate::status::Status;
 use std::alloc::Global;

@@ -9,6 +9,8 @@ ghost use Rattle.xc_top.specs.Asked.{asked};
 pub(crate) enum Request<'a> {
     /// To judge the lattice in that file.
     Lattice { file: &'a str },
+    /// To evaluate formulas over a view.
+    Check { view: &'a str, formulas: &'a str },
 }
 
 /// What the words ask for, if they are a request.
@@ -18,6 +20,10 @@ pub(crate) fn requested(words: &[String]) -> Option<Request<'_>>
     match words {
         [mode, file] if mode.as_str() == "lattice" => Some(Request::Lattice {
             file: file.as_str(),
+        }),
+        [mode, view, formulas] if mode.as_str() == "check" => Some(Request::Check {
+            view: view.as_str(),
+            formulas: formulas.as_str(),
         }),
         _ => None,
     }

@@ -1,10 +1,11 @@
 //! The texts that go to out and err.
 
-ghost use Rattle.std.specs.Prelude.{◌≡◌, ◌<◌, ◌++◌, length, IfOk, OnOk};
+ghost use Rattle.std.specs.Prelude.{◌≡◌, ◌<◌, ◌∷◌, ◌++◌, length, IfOk, OnOk};
+ghost use Rattle.std.specs.List.{flat_map};
 ghost use Rattle.std.specs.String.{string_bytes};
 ghost use Rattle.xc_base.specs.Names.{name_at};
 ghost use Rattle.xc_lattice.specs.Values.{value_of};
-ghost use Rattle.xc_top.specs.Texts.{lattice_text, broken_text, law_word, file_line, read_line};
+ghost use Rattle.xc_top.specs.Texts.{lattice_text, broken_text, law_word, file_line, broken_line, value_line, not_yet_line, states_line, read_line};
 
 use std::alloc::{AllocError, Global};
 use xc_base::{List, Word};
@@ -62,20 +63,28 @@ fn word_of(law: Law) -> &'static str
     }
 }
 
+/// Appends names, with a blank before each.
+fn push_names(text: &mut String, names: &List<Word>) -> Result<(), AllocError>
+    ensures { OnOk result (string_bytes text.new ≡ string_bytes text.old ++ flat_map (λ name. 32 ∷ name) names.now) }
+{
+    for name in names.as_slice() {
+        text.push_str(" ")?;
+        text.push_str(name.as_str())?;
+    }
+    Ok(())
+}
+
 /// The text for a file that breaks a law.
-pub(crate) fn broken_line(
+pub(crate) fn broken_text(
     alloc: Global,
     law: Law,
     elements: &List<Word>,
 ) -> Result<String, AllocError>
     ensures { IfOk result (λ t. string_bytes t ≡ broken_text law elements.now) }
 {
-    let mut text = String::from_str(alloc, "broken ")?;
-    text.push_str(word_of(law))?;
-    for element in elements.as_slice() {
-        text.push_str(" ")?;
-        text.push_str(element.as_str())?;
-    }
+    let mut text = String::new(alloc);
+    push_both(&mut text, "broken ", word_of(law))?;
+    push_names(&mut text, elements)?;
     text.push_str("\n")?;
     Ok(text)
 }
@@ -85,6 +94,53 @@ pub(crate) fn refused_file(alloc: Global, name: &str) -> Result<String, AllocErr
     ensures { IfOk result (λ t. string_bytes t ≡ file_line name.now) }
 {
     format!(in alloc; "refused file {name}\n")
+}
+
+/// The line for a lattice that breaks a law, where a view names its file.
+pub(crate) fn refused_broken(
+    alloc: Global,
+    name: &str,
+    law: Law,
+    elements: &List<Word>,
+) -> Result<String, AllocError>
+    ensures { IfOk result (λ t. string_bytes t ≡ broken_line name.now law elements.now) }
+{
+    let mut text = String::new(alloc);
+    push_both(&mut text, "refused broken ", name)?;
+    push_both(&mut text, " ", word_of(law))?;
+    push_names(&mut text, elements)?;
+    text.push_str("\n")?;
+    Ok(text)
+}
+
+/// The line for a value that is no element of the lattice of a view.
+pub(crate) fn refused_value(alloc: Global, view: &str, word: &str) -> Result<String, AllocError>
+    ensures { IfOk result (λ t. string_bytes t ≡ value_line view.now word.now) }
+{
+    let mut text = String::new(alloc);
+    push_both(&mut text, "refused value ", view)?;
+    push_both(&mut text, " ", word)?;
+    text.push_str("\n")?;
+    Ok(text)
+}
+
+/// The line for a form of formulas that is not read yet.
+pub(crate) fn refused_not_yet(alloc: Global, name: &str, line: u32) -> Result<String, AllocError>
+    ensures { IfOk result (λ t. string_bytes t ≡ not_yet_line name.now line) }
+{
+    let number = format!(in alloc; "{line}")?;
+    let mut text = String::new(alloc);
+    push_both(&mut text, "refused notyet ", name)?;
+    push_both(&mut text, " ", number.as_str())?;
+    text.push_str("\n")?;
+    Ok(text)
+}
+
+/// The line for too many states.
+pub(crate) fn refused_states(alloc: Global, count: u32) -> Result<String, AllocError>
+    ensures { IfOk result (λ t. string_bytes t ≡ states_line count) }
+{
+    format!(in alloc; "refused states {count}\n")
 }
 
 /// The line for a file that was not read.
