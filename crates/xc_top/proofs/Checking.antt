@@ -5,12 +5,14 @@ use Rattle.std.proofs.lemmas.Bool.{lt-ltb}
 use Rattle.xc_base.specs.Formats.{Row, IsAccepted}
 use Rattle.xc_base.specs.Shelves.{Told, Shelved, IsLoaded}
 use Rattle.xc_base.specs.declared.shelf.File.{File}
+use Rattle.xc_base.specs.declared.fault.FileFault.{FileFault}
+use Rattle.xc_lattice.specs.declared.law.Law.{Law}
 use Rattle.xc_lattice.specs.LatticeFiles.{LatticeValue, Verdict, Faulty, Unlawful, Lawful, IsVerdict}
 use Rattle.xc_view.specs.ViewFiles.{ViewValue, view_format}
 use Rattle.xc_ctl.specs.FormulaFiles.{formula_format}
 use Rattle.xc_ctl.specs.declared.kind.Kind.{Kind}
 use Rattle.xc_top.specs.Requests.{CheckOf}
-use Rattle.xc_top.specs.Texts.{states_line}
+use Rattle.xc_top.specs.Texts.{states_line, value_line, file_line, broken_line}
 use Rattle.xc_top.specs.Checks.{unknown_value, signature_of, states_of, state_limit}
 use Rattle.xc_top.specs.Outcomes.{Outcome, Refusal, Event, Ends, Ending, file_limit, Cuts, Opens, ReadsView, ReadsLattice, ComesOfLattice, ReadsFormulas, Reports, Evaluates, states_excess, FormulaTasks, ValueTasks, LatticeTasks, IsCourse}
 use Rattle.xc_top.specs.Outcomes.ReadsView.{faulty as view_faulty, accepted as view_accepted}
@@ -28,6 +30,13 @@ refused_comes P Q Memory f h = tt
 refused_comes P Q Words f h = h
 refused_comes P Q (ReadFault line) f h = h
 refused_comes P Q WriteFault f h = h
+
+-- why a lattice file is not used
+pub lattice_faulty : (name : List ℕ) (rows : List Row) (fault : FileFault) (line : List ℕ) → IsVerdict rows (Faulty fault) → line ≡ file_line name → IsLatticeRefusal name rows line
+lattice_faulty name rows fault line judged told = record { verdict = Faulty fault; judged = judged; told = told }
+
+pub lattice_broken : (name : List ℕ) (rows : List Row) (law : Law) (names : List (List ℕ)) (line : List ℕ) → IsVerdict rows (Unlawful law names) → line ≡ broken_line name law names → IsLatticeRefusal name rows line
+lattice_broken name rows law names line judged told = record { verdict = Unlawful law names; judged = judged; told = told }
 
 -- the view's file
 module _ (view formulas : List ℕ) where
@@ -73,7 +82,7 @@ module _ (v : ViewValue) (formulas : List ℕ) where
   value_ends l line r m = rw r.unknown (ap (λ x. Ends (Refusal x)) r.told)
 
   values_found : (l : LatticeValue) → unknown_value v l ≡ None → (m : ℕ → List File) (e : Event) → Opens formulas (FormulaTasks v l formulas) m e → ValueTasks v formulas l m e
-  values_found l known m e h = subst (λ (u : Option (List ℕ)). MatchOption u (Opens formulas (FormulaTasks v l formulas) m e) _) (sym known) h
+  values_found l known m e h = subst (λ (u : Option (List ℕ)). MatchOption u (Opens formulas (FormulaTasks v l formulas) m e) (λ word. e ≡ Ends (Refusal (value_line v.name word)))) (sym known) h
 
   module _ (bytes : List ℕ) where
     pub lattice_not_cut : (shelf shelf_after : Shelved) (halt : Halt) → IsCutHalt v.lattice bytes halt → IsPrepared (Cuts v.lattice (ReadsLattice v.lattice (ValueTasks v formulas)) bytes) shelf shelf_after (Err halt)

@@ -34,7 +34,7 @@ judged_text name rows v (Err WriteFault) judged text = text
 
 -- the bytes of a lattice file
 module _ (name bytes : List ℕ) where
-  judging : List Row → (ℕ → List File) → Event → Type 0
+  abbrev judging : List Row → (ℕ → List File) → Event → Type 0
   judging rows moments = Ending (JudgesLattice name rows)
 
   judged_all : (rows : List Row) (result : Result Answer Halt) → ComesTo (JudgesLattice name rows) result → Comes (judging rows) result

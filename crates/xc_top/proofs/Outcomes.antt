@@ -1,5 +1,5 @@
 -- Words have one outcome at most over given files.
-use Rattle.std.proofs.Common.{◌≡◌, ℕ, ◌<◌, ◌-◌, List, [], ◌∷◌, Option, Some, None, MatchOption, length, sym, ap, ◌∙◌, subst, inl, inr, ◌⊎◌, refl, arith}
+use Rattle.std.proofs.Common.{◌≡◌, true, ℕ, ◌<◌, ◌-◌, List, [], ◌∷◌, Option, Some, None, MatchOption, length, sym, ap, ◌∙◌, subst, inl, inr, ◌⊎◌, refl, arith}
 use Rattle.xc_base.specs.Formats.{Row, IsAccepted, IsFirstFault}
 use Rattle.xc_base.specs.Lines.{text_rows}
 use Rattle.xc_base.specs.Text.{text_fault}
@@ -11,6 +11,8 @@ use Rattle.xc_theory.proofs.Chains.{heights_are_unique}
 use Rattle.xc_lattice.proofs.Verdicts.{verdicts_are_unique}
 use Rattle.xc_lattice.specs.LatticeFiles.{LatticeValue, Verdict, Faulty, Unlawful, Lawful}
 use Rattle.xc_view.specs.ViewFiles.{ViewValue, view_format}
+use Rattle.std.specs.List.{list_all}
+use Rattle.xc_ctl.specs.Tables.{is_table}
 use Rattle.xc_ctl.specs.FormulaFiles.{formula_format}
 use Rattle.xc_ctl.specs.declared.kind.Kind.{Kind}
 use Rattle.xc_top.specs.Requests.{Request, LatticeOf, CheckOf}
@@ -23,7 +25,7 @@ use Rattle.xc_top.specs.declared.status.Status.TheVariants.{Done}
 use Rattle.xc_top.proofs.Courses.{Course}
 use Rattle.xc_top.proofs.Reports.{one_report}
 use Rattle.xc_view.proofs.Verdicts.{views_are_unique, view_faults_are_unique, views_have_no_fault}
-use Rattle.xc_ctl.proofs.Verdicts.{tables_are_unique, formula_faults_are_unique, formulas_have_no_fault}
+use Rattle.xc_ctl.proofs.Verdicts.{accepted_are_tables, tables_are_unique, formula_faults_are_unique, formulas_have_no_fault}
 
 -- what may happen has one end at most
 abbrev Once : (Event → Type 0) → Type 0
@@ -89,10 +91,10 @@ value_once : (v : ViewValue) (next : Event → Type 0) (word : Option (List ℕ)
 value_once v next None once o p a b = once o p a b
 value_once v next (Some word) once o p a b = both_refused a b
 
-evaluated_once : (v : ViewValue) (l : LatticeValue) (tables : List (List Kind)) (excess : Option ℕ) (o p : Outcome)
+evaluated_once : (v : ViewValue) (l : LatticeValue) (tables : List (List Kind)) (excess : Option ℕ) → list_all is_table tables ≡ true → (o p : Outcome)
     → MatchOption excess (Reports v l tables o) (λ count. Ends o ≡ Ends (Refusal (states_line count))) → MatchOption excess (Reports v l tables p) (λ count. Ends p ≡ Ends (Refusal (states_line count))) → o ≡ p
-evaluated_once v l tables None o p a b = one_report v l tables o p a b
-evaluated_once v l tables (Some count) o p a b = both_refused a b
+evaluated_once v l tables None are o p a b = one_report v l tables are o p a b
+evaluated_once v l tables (Some count) are o p a b = both_refused a b
 
 formulas_once : (v : ViewValue) (l : LatticeValue) (name : List ℕ) (rows : List Row) (m : ℕ → List File) → Once (FormulaTasks v l name rows m)
 formulas_once v l name rows m o p (formulas_faulty f first a) (formulas_faulty g also b) =
@@ -100,7 +102,7 @@ formulas_once v l name rows m o p (formulas_faulty f first a) (formulas_faulty g
 formulas_once v l name rows m o p (formulas_faulty f first a) (formulas_accepted tables is b) = absurd (formulas_have_no_fault (signature_of v l) rows tables f is first)
 formulas_once v l name rows m o p (formulas_accepted tables is a) (formulas_faulty f first b) = absurd (formulas_have_no_fault (signature_of v l) rows tables f is first)
 formulas_once v l name rows m o p (formulas_accepted tables is a) (formulas_accepted others are b) =
-    evaluated_once v l others (states_excess v) o p (subst (λ (ts : List (List Kind)). Evaluates v l ts (Ends o)) (tables_are_unique (signature_of v l) rows tables others is are) a) b
+    evaluated_once v l others (states_excess v) (accepted_are_tables (signature_of v l) rows others are) o p (subst (λ (ts : List (List Kind)). Evaluates v l ts (Ends o)) (tables_are_unique (signature_of v l) rows tables others is are) a) b
 
 values_once : (v : ViewValue) (formulas : List ℕ) (l : LatticeValue) (m : ℕ → List File) → Once (ValueTasks v formulas l m)
 values_once v formulas l m =

@@ -7,11 +7,11 @@ use Rattle.xc_base.specs.Sinks.{Sunk, AddsWhole, AddsPart, AddsFront}
 use Rattle.xc_base.specs.declared.shelf.File.{File}
 use Rattle.xc_top.specs.Requests.{Request, request_of}
 use Rattle.xc_top.specs.Texts.{read_line}
-use Rattle.xc_top.specs.Outcomes.{Outcome, Absent, Refusal, Served, IsCourse, IsOutcome, IsReached}
+use Rattle.xc_top.specs.Outcomes.{Outcome, Absent, Refusal, Served, Event, Ends, Loading, always, IsCourse, IsOutcome, IsReached}
 use Rattle.xc_top.specs.Headline.{IsServed, IsRefusal, MayRefuse, MayLoad, AddsAtMost, FailedOnce}
 use Rattle.xc_top.specs.Working.{IsPrepared, IsWorked, CanRefuse, IsWriteHalt, outcome_of, passed_status}
-use Rattle.xc_top.specs.declared.prepare.Answer.{Answer}
-use Rattle.xc_top.specs.declared.prepare.Passed.{Passed}
+use Rattle.xc_top.specs.declared.answer.Answer.{Answer}
+use Rattle.xc_top.specs.declared.answer.Passed.{Passed}
 use Rattle.xc_top.specs.declared.halt.Halt.{Halt}
 use Rattle.xc_top.specs.declared.halt.Halt.TheVariants.{Words, Refused, ReadFault, WriteFault, Memory}
 use Rattle.xc_top.proofs.Outcomes.{course_once}
@@ -22,21 +22,21 @@ some_request (Some r) request e = refl
 
 -- what holds of the one outcome holds of the outcome
 settled : (words : List (List ℕ)) (request : Request) (told : Option Told) (outcome : Outcome) (P : Outcome → Type 0) → Some request ≡ request_of words
-    → IfSome told (λ t. IsCourse request t.files outcome) → P outcome → IfSome told (λ t. (o : Outcome) → IsOutcome words t.files o → P o)
+    → IfSome told (λ t. IsCourse request (always t.files) (Ends outcome)) → P outcome → IfSome told (λ t. (o : Outcome) → IsOutcome words t.files o → P o)
 settled words request None outcome P e course holds = tt
 settled words request (Some told) outcome P e course holds =
-    λ o is. subst P (course_once request told.files outcome o course (subst (λ (r : Option Request). MatchOption r ⊥ (λ q. IsCourse q told.files o)) (sym e) is)) holds
+    λ o is. subst P (course_once request (always told.files) outcome o course (subst (λ (r : Option Request). MatchOption r ⊥ (λ q. IsCourse q (always told.files) (Ends o))) (sym e) is)) holds
 
-may_refuse : (words : List (List ℕ)) (request : Request) (line : List ℕ) → Some request ≡ request_of words → CanRefuse request line → MayRefuse words line
+may_refuse : (words : List (List ℕ)) (request : Request) (line : List ℕ) → Some request ≡ request_of words → CanRefuse (IsCourse request) line → MayRefuse words line
 may_refuse words request line e can = record {
-  files = can.files;
-  refused = subst (λ (r : Option Request). MatchOption r ⊥ (λ q. IsCourse q can.files (Refusal line))) e can.refused;
+  moments = can.moments;
+  refused = subst (λ (r : Option Request). MatchOption r ⊥ (λ q. IsCourse q can.moments (Ends (Refusal line)))) e can.refused;
 }
 
-may_load : (words : List (List ℕ)) (request : Request) (name : List ℕ) (files : List File) → Some request ≡ request_of words → IsReached request files name → MayLoad words name
-may_load words request name files e reached = record {
-  files = files;
-  reached = subst (λ (r : Option Request). MatchOption r ⊥ (λ q. IsReached q files name)) e reached;
+may_load : (words : List (List ℕ)) (request : Request) (name : List ℕ) (moments : ℕ → List File) → Some request ≡ request_of words → IsReached request moments name → MayLoad words name
+may_load words request name moments e reached = record {
+  moments = moments;
+  reached = subst (λ (r : Option Request). MatchOption r ⊥ (λ q. IsReached q moments name)) e reached;
 }
 
 -- a sink that got nothing got a front of any text
@@ -55,15 +55,15 @@ for_all words (Some told) P all = λ o is. all o
 
 -- where preparing stopped, nothing was written
 pub halted : (words : List (List ℕ)) (request : Request) (shelf shelf_after : Shelved) (out : Sunk) (halt : Halt) → Some request ≡ request_of words
-    → IsPrepared request shelf shelf_after (Err halt) → IsWorked words shelf shelf_after out out (Err halt)
+    → IsPrepared (IsCourse request) shelf shelf_after (Err halt) → IsWorked words shelf shelf_after out out (Err halt)
 halted words request shelf shelf_after out Words e p = absurd p
 halted words request shelf shelf_after out (Refused line) e p =
     (some_request (request_of words) request e, may_refuse words request (string_bytes line) e p.0, settled words request shelf.told (Refusal (string_bytes line)) (IsRefusal (λ l. string_bytes line ≡ l)) e p.1 refl, refl)
 halted words request shelf shelf_after out (ReadFault line) e p = (
   some_request (request_of words) request e,
-  record { name = p.1.name; may = may_load words request p.1.name p.1.files e p.1.reached; named = p.1.told },
+  record { name = p.1.name; may = may_load words request p.1.name p.1.moments e p.1.reached; named = p.1.told },
   p.0,
-  subst (λ (r : Option Request). IfSome r (λ q. FailedOnce q shelf shelf_after (λ name. string_bytes line ≡ read_line name))) e p.1,
+  subst (λ (r : Option Request). IfSome r (λ q. FailedOnce (IsCourse q) shelf shelf_after (λ name. string_bytes line ≡ read_line name))) e p.1,
   refl,
 )
 halted words request shelf shelf_after out WriteFault e p = absurd p
@@ -80,7 +80,7 @@ no_request (Some r) request e n = cc
 
 -- where there was an answer, its text was written, or a front of it
 pub delivered : (words : List (List ℕ)) (request : Request) (shelf shelf_after : Shelved) (old new : Sunk) (answer : Answer) (result : Result Passed Halt) → Some request ≡ request_of words
-    → IsPrepared request shelf shelf_after (Ok answer)
+    → IsPrepared (IsCourse request) shelf shelf_after (Ok answer)
     → IfOk result (λ p. p ≡ answer.passed) → OnOk result (AddsWhole (string_bytes answer.text) old.bytes new.bytes) → IfErr result (IsWriteHalt (string_bytes answer.text) old new)
     → IsWorked words shelf shelf_after old new result
 delivered words request shelf shelf_after old new answer (Ok passed) e prepared is whole stopped = (

@@ -2,6 +2,7 @@
 
 ghost use Rattle.std.specs.Prelude.{◌≡◌, None, true, IfOk, IfErr, length};
 ghost use Rattle.std.specs.List.{list_all};
+ghost use Rattle.std.specs.String.{string_bytes};
 ghost use Rattle.xc_base.specs.Formats.{IsAccepted};
 ghost use Rattle.xc_base.specs.Lines.{rows_in};
 ghost use Rattle.xc_lattice.specs.LatticeFiles.{IsVerdict};
@@ -14,7 +15,7 @@ ghost use Rattle.xc_ctl.specs.Formulas.{nodes_in};
 ghost use Rattle.xc_ctl.specs.Tables.{is_table_in};
 ghost use Rattle.xc_top.specs.Checks.{unknown_value, signature_of, prop_names};
 ghost use Rattle.xc_top.specs.Headline.{TellsSame};
-ghost use Rattle.xc_top.specs.Outcomes.{Cuts, Opens, Evaluates, FormulaTasks, IsCourse, LatticeTasks, ReadsLattice, ReadsView, ValueTasks, Ends};
+ghost use Rattle.xc_top.specs.Outcomes.{formula_line, Cuts, Opens, Evaluates, FormulaTasks, IsCourse, LatticeTasks, ReadsLattice, ReadsView, ValueTasks, Ends};
 ghost use Rattle.xc_top.specs.Requests.{CheckOf};
 ghost use Rattle.xc_top.specs.Working.{Comes, ComesTo, IsFormulaRefusal, IsLatticeRefusal, IsPrepared, IsRefusalHalt, IsValueRefusal, IsViewRefusal, LeavesShelf};
 
@@ -24,7 +25,7 @@ use crate::load::{cut, load};
 use crate::lookup::{count, unknown};
 use crate::report::{read_tables, report};
 use crate::text;
-use std::alloc::Global;
+use std::alloc::{AllocError, Global};
 use xc_base::{FileFault, Lines, Shelf, Stop};
 use xc_ctl::Formulas;
 use xc_lattice::{LatFault, Lattice};
@@ -46,6 +47,7 @@ fn read_view(alloc: Global, name: &str, lines: &Lines) -> Result<View, Halt>
 }
 
 /// The lattice of a file that is cut into lines.
+#[tactic(auto, using(crate::proofs::Checking::lattice_faulty, crate::proofs::Checking::lattice_broken))]
 fn read_lattice(alloc: Global, name: &str, lines: &Lines) -> Result<Lattice, Halt>
     ensures read { IfOk result (λ l. IsVerdict (rows_in lines.now) (Lawful (lattice_of l))) }
     ensures stopped { IfErr result (IsRefusalHalt (IsLatticeRefusal name.now (rows_in lines.now))) }
@@ -76,11 +78,12 @@ fn look_up(alloc: Global, view: &View, lattice: &Lattice) -> Result<(), Halt>
 }
 
 /// The line for the fault of a formula file.
-fn refused_formulas(alloc: Global, name: &str, fault: &FileFault) -> Result<String, Halt>
+fn refused_formulas(alloc: Global, name: &str, fault: &FileFault) -> Result<String, AllocError>
+    ensures { IfOk result (λ t. string_bytes t ≡ formula_line name.now fault.now) }
 {
     match fault {
-        FileFault::NotYet { line } => Ok(text::refused_not_yet(alloc, name, *line)?),
-        _ => Ok(text::refused_file(alloc, name)?),
+        FileFault::NotYet { line } => text::refused_not_yet(alloc, name, *line),
+        _ => text::refused_file(alloc, name),
     }
 }
 

@@ -1,6 +1,6 @@
 //! What a check needs to know of a view before its formulas are read.
 
-ghost use Rattle.std.specs.Prelude.{◌≡◌, find, not};
+ghost use Rattle.std.specs.Prelude.{◌≡◌, find, map, not};
 ghost use Rattle.std.specs.Option.{option_copied};
 ghost use Rattle.xc_base.specs.Names.{is_among};
 ghost use Rattle.xc_lattice.specs.Values.{value_of as lattice_of};
@@ -9,30 +9,40 @@ ghost use Rattle.xc_top.specs.Checks.{unknown_value, states_of};
 
 use xc_base::{Word, is_among};
 use xc_lattice::Lattice;
-use xc_view::View;
+use xc_view::{Command, PropLine, View};
+
+#[tactic(auto, using(crate::proofs::LookingUp::prop_next))]
+fn in_props<'a>(names: &[Word], props: &'a [PropLine]) -> Option<&'a Word>
+    ensures { option_copied result ≡ find (λ word. not (is_among names.now word)) (map (λ l. l.value) props.now) }
+{
+    for l in props {
+        if !is_among(names, l.value.as_str().as_bytes()) {
+            return Some(&l.value);
+        }
+    }
+    None
+}
+
+#[tactic(auto, using(crate::proofs::LookingUp::command_next))]
+fn in_commands<'a>(names: &[Word], commands: &'a [Command]) -> Option<&'a Word>
+    ensures { option_copied result ≡ find (λ word. not (is_among names.now word)) (map (λ c. c.value) commands.now) }
+{
+    for c in commands {
+        if !is_among(names, c.value.as_str().as_bytes()) {
+            return Some(&c.value);
+        }
+    }
+    None
+}
 
 /// The first value of a view's propositions, then of its commands, that is no element of the lattice.
+#[tactic(auto, using(crate::proofs::LookingUp::unknown_is))]
 pub(crate) fn unknown<'a>(view: &'a View, lattice: &Lattice) -> Option<&'a Word>
     ensures { option_copied result ≡ unknown_value (view_of view.now) (lattice_of lattice.now) }
 {
     let names = lattice.names().as_slice();
-    let in_props = view
-        .props()
-        .as_slice()
-        .iter()
-        .find(|l| !is_among(names, l.value.as_str().as_bytes()));
-    if let Some(l) = in_props {
-        return Some(&l.value);
-    }
-    let in_commands = view
-        .commands()
-        .as_slice()
-        .iter()
-        .find(|c| !is_among(names, c.value.as_str().as_bytes()));
-    match in_commands {
-        Some(c) => Some(&c.value),
-        None => None,
-    }
+    in_props(names, view.props().as_slice())
+        .or(in_commands(names, view.commands().as_slice()))
 }
 
 /// How many states a view has.
