@@ -1,6 +1,7 @@
 pub mod Variables
 pub mod Tests
 pub mod Actions
+pub mod Moving
 pub mod Written
 pub mod Resolving
 pub mod ActionReading
