@@ -34,6 +34,10 @@ last_digit sizes s code digit h low =
     let same : code_of (sizes ++ s ∷ []) (row ++ digit ∷ []) ≡ code * s + digit = code_snoc sizes row s digit are ∙ ap (λ (c : ℕ). c * s + digit) (codes_of_digits sizes code h) in
     sym (ap (digits (sizes ++ s ∷ [])) same) ∙ digits_of_codes (sizes ++ s ∷ []) (row ++ digit ∷ []) (digits_snoc sizes row s digit are low)
 
+-- the places of a state are digits
+pub are_digits : (sizes row : List ℕ) (code : ℕ) → code < total sizes → row ≡ digits sizes code → AreDigits sizes row
+are_digits sizes row code h e = rw e (digits_are_in_range sizes code h)
+
 -- what the rest of a state and the places behind come to
 unfoldable pub comes_to : List ℕ → ℕ → ℕ → List ℕ → List ℕ
 comes_to sizes place rest row = digits (take place sizes) rest ++ take (length sizes - place) (drop place row)
