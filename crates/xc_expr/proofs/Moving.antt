@@ -4,6 +4,7 @@ use Rattle.std.specs.List.{list_all, range_with_len, find}
 use Rattle.xc_theory.specs.Codes.{AreDigits}
 use Rattle.xc_expr.specs.Actions.{assigns, may_go, allows, assigns_twice, is_assign_in_range, is_action_in_range}
 use Rattle.xc_expr.specs.Variables.{sizes_of}
+use Rattle.xc_expr.proofs.KnownNames.{and_left, and_right}
 use Rattle.xc_expr.specs.Moving.{goes_at, goes_from}
 use Rattle.xc_expr.specs.declared.assign.Assign.{Assign}
 use Rattle.xc_expr.specs.declared.domain.Domain.{Domain}
@@ -35,14 +36,6 @@ digits_length [] [] h = refl
 digits_length [] (x ∷ row) h = absurd h
 digits_length (size ∷ sizes) [] h = absurd h
 digits_length (size ∷ sizes) (x ∷ row) h = ap suc (digits_length sizes row h.1)
-
-and_left : (a b : Bool) → (a && b) ≡ true → a ≡ true
-and_left true b h = refl
-and_left false b h = h
-
-and_right : (a b : Bool) → (a && b) ≡ true → b ≡ true
-and_right true b h = h
-and_right false b h = cc
 
 -- what is found among elements that pass passes
 first_passes : {X : Type 0} (p : X → Bool) (b : Bool) (x a : X) (rest : Option X) → p x ≡ true → cond b (Some x) rest ≡ Some a → (rest ≡ Some a → p a ≡ true) → p a ≡ true

@@ -1,4 +1,5 @@
 pub mod Variables
+pub mod Called
 pub mod Tests
 pub mod Actions
 pub mod Moving

@@ -24,7 +24,11 @@ fn assigned(assign: &Assign) -> usize
 fn assignment_of(action: &Action, var: usize) -> Option<Assign>
     ensures { result ≡ find (assigns var) action.now }
 {
-    action.as_slice().iter().copied().find(|assign| assigned(assign) == var)
+    action
+        .as_slice()
+        .iter()
+        .copied()
+        .find(|assign| assigned(assign) == var)
 }
 
 /// How many values a variable has.

@@ -11,10 +11,12 @@ mod guard;
 mod guard_names;
 mod guard_parser;
 mod guard_test;
+mod operands;
 mod phrase;
 mod places;
 mod read;
 mod setting;
+mod words;
 
 pub use action_names::{resolve_action, sets_twice};
 pub use action_parser::parse_action;

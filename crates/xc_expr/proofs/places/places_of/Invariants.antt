@@ -9,5 +9,5 @@ abbrev pub invariant-loop-place : goal.invariant-loop-place
 invariant-loop-place l = record {
   room : length l.row ≡ 20;
   below : l.rest < total (take l.place (sizes_of l.vars));
-  known : comes_to (sizes_of l.vars) l.place l.rest l.row ≡ digits (sizes_of l.vars) l.fn.state
+  known : comes_to (sizes_of l.vars) l.place l.rest l.row ≡ digits (sizes_of l.vars) l.fn.state;
 }
