@@ -1,16 +1,18 @@
 -- A guard of known names is in range.
-use Rattle.std.proofs.Common.{◌≡◌, ℕ, ◌<◌, Bool, true, false, cond, ◌&&◌, nat_lt, List, length, map, Option, Some, None, refl, sym, ◌∙◌, subst, ap, arith}
-use Rattle.std.specs.Option.{option_map}
+use Rattle.std.proofs.Common.{◌≡◌, ℕ, ◌<◌, Bool, true, false, cond, ◌&&◌, nat_lt, List, length, map, Option, Some, None, Result, Ok, Err, IfOk, refl, sym, ◌∙◌, subst, ap, arith}
+use Rattle.std.specs.Option.{option_map, IfSome}
 use Rattle.std.proofs.lemmas.Bool.{and_from, lt-ltb}
 use Rattle.std.proofs.lemmas.List.{length-map}
 use Rattle.xc_base.specs.Names.{are_same}
+use Rattle.xc_base.specs.declared.memory.Memory.{Memory}
 use Rattle.xc_base.proofs.Naming.{found_in_range}
 use Rattle.xc_expr.specs.Variables.{names_of, values_at, are_fit}
-use Rattle.xc_expr.specs.Tests.{Test, has_value, are_peers, is_in_range}
+use Rattle.xc_expr.specs.Tests.{Test, test_of, has_value, are_peers, is_in_range}
 use Rattle.xc_expr.specs.Tests as tests
 use Rattle.xc_expr.specs.Written.{Written, True, False, Equal, Unequal, Not, And, Or}
 use Rattle.xc_expr.specs.Resolving.{then_some, both, variable, value, peer, or_peer, operand, resolved}
 use Rattle.xc_expr.specs.declared.domain.Domain.{Domain}
+use Rattle.xc_expr.specs.declared.guard.Guard.{Guard}
 
 none_is_not : {X : Type 0} (y : X) → None ≡ Some y → ⊥
 none_is_not y e = cc
@@ -80,3 +82,12 @@ guard_in_range vars (Or g h) t e = both_range vars tests.Or t (resolved vars g) 
 
 pub resolved_in_range : (vars : List Domain) (g : Written) (test : Test) → are_fit vars ≡ true → resolved vars g ≡ Some test → is_in_range vars test ≡ true
 resolved_in_range vars g test fit e = guard_in_range vars g test e
+
+-- the same of a guard of the code
+known_by : (vars : List Domain) (g : Written) (o : Option Guard) → option_map test_of o ≡ resolved vars g → IfSome o (λ h. is_in_range vars (test_of h) ≡ true)
+known_by vars g None e = tt
+known_by vars g (Some h) e = guard_in_range vars g (test_of h) (sym e)
+
+pub known_in_range : (vars : List Domain) (g : Written) (r : Result (Option Guard) Memory) → IfOk r (λ o. option_map test_of o ≡ resolved vars g) → IfOk r (λ o. IfSome o (λ h. is_in_range vars (test_of h) ≡ true))
+known_in_range vars g (Ok o) e = known_by vars g o e
+known_in_range vars g (Err m) e = tt
