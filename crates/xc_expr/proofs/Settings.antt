@@ -6,7 +6,7 @@ use Rattle.std.proofs.lemmas.List.{drop-drop}
 use Rattle.xc_base.specs.Names.{is_among}
 use Rattle.xc_expr.specs.Written.{set}
 use Rattle.xc_expr.specs.Resolving.{set_name, sets_twice, both, resolved_action}
-use Rattle.xc_expr.specs.ActionReading.{name_set, is_set_in, repeats_first, repeats, resolved_setting, resolves}
+use Rattle.xc_expr.specs.KnownSettings.{name_set, is_set_in, repeats_first, repeats, resolved_setting, resolves}
 use Rattle.xc_expr.specs.declared.assign.Assign.{Assign}
 use Rattle.xc_expr.specs.declared.domain.Domain.{Domain}
 use Rattle.xc_expr.specs.declared.setting.Setting.{Setting}
@@ -34,8 +34,8 @@ pub repeats_is : (settings : List Setting) → repeats settings ≡ sets_twice (
 unfolding repeats
 repeats_is settings = refl
 
--- what is known, with one more assignment
-known_more : (a : Assign) (known : List Assign) (more : Option (List Assign)) → option_map (λ rest. known ++ rest) (both (λ b rest. b ∷ rest) (Some a) more) ≡ option_map (λ rest. (known ++ a ∷ []) ++ rest) more
+-- what is known, with one more
+pub known_more : {X : Type 0} (a : X) (known : List X) (more : Option (List X)) → option_map (λ rest. known ++ rest) (both (λ b rest. b ∷ rest) (Some a) more) ≡ option_map (λ rest. (known ++ a ∷ []) ++ rest) more
 known_more a known None = refl
 known_more a known (Some more) = ap Some (sym (append_assoc known (a ∷ []) more))
 
@@ -59,7 +59,8 @@ pub resolves_none : (vars : List Domain) (known : List Assign) → resolves vars
 unfolding resolves
 resolves_none vars known = rw append-nil refl
 
-option_same : {X : Type 0} (o : Option (List X)) → option_map (λ more. [] ++ more) o ≡ o
+-- nothing before it
+pub option_same : {X : Type 0} (o : Option (List X)) → option_map (λ more. [] ++ more) o ≡ o
 option_same None = refl
 option_same (Some more) = refl
 

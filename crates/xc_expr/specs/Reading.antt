@@ -1,5 +1,6 @@
 -- Which guard, and which action, tokens are: functions that decide it.
-use Rattle.std.specs.Prelude.{ℕ, List, Option, None}
+use Rattle.std.specs.Prelude.{ℕ, if◌then◌else◌, List, [], Option, Some, None}
+use Rattle.xc_expr.specs.ActionReading.{is_skip, assignments_in}
 use Rattle.xc_expr.specs.Written.{Written, Assigned}
 
 -- the guard that the tokens are, where they are one
@@ -8,4 +9,4 @@ guard_in tokens = None
 
 -- the action that the tokens are, where they are one
 unfoldable pub action_in : List (List ℕ) → Option (List Assigned)
-action_in tokens = None
+action_in tokens = if is_skip tokens then Some [] else assignments_in [] tokens

@@ -3,7 +3,7 @@ ghost use Rattle.xc_expr.specs.Variables.{are_fit};
 ghost use Rattle.xc_expr.specs.Actions.{is_action_in_range};
 ghost use Rattle.xc_expr.specs.Written.{set};
 ghost use Rattle.xc_expr.specs.Resolving.{operand, resolved_action, sets_twice};
-ghost use Rattle.xc_expr.specs.ActionReading.{name_set, is_set_in, repeats_first, repeats, resolved_setting, resolves};
+ghost use Rattle.xc_expr.specs.KnownSettings.{name_set, is_set_in, repeats_first, repeats, resolved_setting, resolves};
 
 use crate::assign::{Action, Assign};
 use crate::domain::Vars;
@@ -24,7 +24,7 @@ fn value_or_copy(vars: &Vars, var: u8, name: &[u8]) -> Option<Assign>
 }
 
 /// The assignment that a setting is, where its names are known.
-#[tactic(auto, unfolding(crate::specs::ActionReading::resolved_setting))]
+#[tactic(auto, unfolding(crate::specs::KnownSettings::resolved_setting))]
 fn resolve_setting(setting: &Setting, vars: &Vars) -> Option<Assign>
     requires { are_fit vars.now ≡ true }
     ensures { result ≡ resolved_setting vars.now setting.now }
@@ -77,7 +77,7 @@ pub fn resolve_action(
 }
 
 /// The name of the variable that is set.
-#[tactic(auto, unfolding(crate::specs::ActionReading::name_set))]
+#[tactic(auto, unfolding(crate::specs::KnownSettings::name_set))]
 fn name_of<'a>(setting: &Setting<'a>) -> &'a [u8]
     ensures { result.now ≡ name_set setting.now }
 {
@@ -90,7 +90,7 @@ fn name_of<'a>(setting: &Setting<'a>) -> &'a [u8]
 }
 
 /// Whether one of the settings sets that variable.
-#[tactic(auto, unfolding(crate::specs::ActionReading::is_set_in))]
+#[tactic(auto, unfolding(crate::specs::KnownSettings::is_set_in))]
 fn is_set(settings: &[Setting], name: &[u8]) -> bool
     ensures { result ≡ is_set_in name.now settings.now }
 {
@@ -98,7 +98,7 @@ fn is_set(settings: &[Setting], name: &[u8]) -> bool
 }
 
 /// Whether the variable that the first of the settings sets is set again.
-#[tactic(auto, unfolding(crate::specs::ActionReading::repeats_first))]
+#[tactic(auto, unfolding(crate::specs::KnownSettings::repeats_first))]
 fn repeats_first(settings: &[Setting]) -> bool
     ensures { result ≡ repeats_first settings.now }
 {
@@ -121,7 +121,7 @@ fn repeats(settings: &[Setting]) -> bool
 }
 
 /// Whether a variable is set twice.
-#[tactic(auto, unfolding(crate::specs::ActionReading::repeats))]
+#[tactic(auto, unfolding(crate::specs::KnownSettings::repeats))]
 pub fn sets_twice(settings: &[Setting]) -> bool
     ensures { result ≡ sets_twice (map set settings.now) }
 {
