@@ -3,7 +3,7 @@ use Rattle.std.proofs.Common.{◌≡◌, ℕ, zero, suc, ◌+◌, ◌-◌, ◌<�
 use Rattle.std.specs.List.{slice_index_or}
 use Rattle.std.specs.Option.{option_map}
 use Rattle.std.proofs.Math.Seq.{take-suc}
-use Rattle.std.proofs.lemmas.List.{drop_all, get_or-drop}
+use Rattle.std.proofs.lemmas.List.{drop_all, get_or-drop, map-append}
 use Rattle.xc_expr.proofs.Settings.{known_more, option_same}
 use Rattle.xc_base.specs.Lines.{texts}
 use Rattle.xc_base.specs.declared.lines.Lexeme.{Lexeme}
@@ -85,8 +85,7 @@ unfolding reads_from
 none_taken settings tokens place = let e : place - place ≡ 0 = omega arith in rw e refl
 
 map_snoc : (settings : List Setting) (s : Setting) → map set settings ++ set s ∷ [] ≡ map set (settings ++ s ∷ [])
-map_snoc [] s = refl
-map_snoc (x ∷ settings) s = ap (λ (rest : List Assigned). set x ∷ rest) (map_snoc settings s)
+map_snoc settings s = sym (map-append set settings (s ∷ []))
 
 -- at a `;` the tokens that are taken are one more assignment
 pub reads_mark : (settings : List Setting) (tokens : List (List ℕ)) (start place : ℕ) (s : Setting) → place < length tokens → is_mark_at tokens place ≡ true → option_map set (Some s) ≡ assignment_at tokens start place → reads_from settings tokens start place ≡ reads_from (settings ++ s ∷ []) tokens (place + 1) (place + 1)
@@ -122,3 +121,7 @@ reads_all tokens e = rw e (option_same (assignments_in [] tokens))
 pub reads_skip : (tokens : List (List ℕ)) → is_skip tokens ≡ true → action_in tokens ≡ Some []
 unfolding action_in
 reads_skip tokens e = rw e refl
+
+pub reads_tokens : (tokens : List (List ℕ)) → is_skip tokens ≡ false → action_in tokens ≡ assignments_in [] tokens
+unfolding action_in
+reads_tokens tokens e = rw e refl

@@ -22,12 +22,12 @@ then_some_is : {X Y : Type 0} (o : Option X) (next : X → Option Y) (y : Y) →
 then_some_is None next y e = cc
 then_some_is (Some x) next y e = (x, refl, e)
 
-both_is : {X Y Z : Type 0} (f : X → Y → Z) (o : Option X) (p : Option Y) (z : Z) → both f o p ≡ Some z → (x : X) × (y : Y) × (o ≡ Some x) × (p ≡ Some y) × (f x y ≡ z)
+pub both_is : {X Y Z : Type 0} (f : X → Y → Z) (o : Option X) (p : Option Y) (z : Z) → both f o p ≡ Some z → (x : X) × (y : Y) × (o ≡ Some x) × (p ≡ Some y) × (f x y ≡ z)
 both_is f None p z e = cc
 both_is f (Some x) None z e = cc
 both_is f (Some x) (Some y) z e = (x, y, refl, refl, cc)
 
-map_is : {X Y : Type 0} (f : X → Y) (o : Option X) (y : Y) → option_map f o ≡ Some y → (x : X) × (o ≡ Some x) × (f x ≡ y)
+pub map_is : {X Y : Type 0} (f : X → Y) (o : Option X) (y : Y) → option_map f o ≡ Some y → (x : X) × (o ≡ Some x) × (f x ≡ y)
 map_is f None y e = cc
 map_is f (Some x) y e = (x, refl, cc)
 
@@ -39,7 +39,7 @@ if_is false x y e = cc
 there : (vars : List Domain) (name : List ℕ) (x : ℕ) → variable vars name ≡ Some x → nat_lt x (length vars) ≡ true
 there vars name x h = lt-ltb x (length vars) (variable_in_range vars name x h)
 
-both_true : (a b : Bool) → a ≡ true → b ≡ true → (a && b) ≡ true
+pub both_true : (a b : Bool) → a ≡ true → b ≡ true → (a && b) ≡ true
 both_true true b h k = k
 both_true false b h k = h
 
@@ -113,7 +113,7 @@ is_false : (b : Bool) → (b ≡ true → ⊥) → b ≡ false
 is_false true h = absurd (h refl)
 is_false false h = refl
 
-both_false : (a b : Bool) → a ≡ false → b ≡ false → (a || b) ≡ false
+pub both_false : (a b : Bool) → a ≡ false → b ≡ false → (a || b) ≡ false
 both_false true b h k = h
 both_false false b h k = k
 

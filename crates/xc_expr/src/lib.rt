@@ -1,6 +1,7 @@
 //! Guards and actions over variables: how they are written, and what they say of states.
 #![tactic(auto)]
 
+mod action_laws;
 mod action_names;
 mod action_parser;
 mod action_test;
@@ -18,6 +19,7 @@ mod read;
 mod setting;
 mod words;
 
+pub use action_laws::actions_are_read;
 pub use action_names::{resolve_action, sets_twice};
 pub use action_parser::parse_action;
 pub use action_test::{moves, moves_in};
