@@ -13,12 +13,12 @@ use Rattle.xc_expr.specs.Reading.{action_in}
 use Rattle.xc_expr.specs.ActionReading.{assignment_in, assignments_in, is_mark, is_skip, is_mark_at, assignment_at, reads_from}
 use Rattle.xc_expr.specs.declared.setting.Setting.{Setting}
 
-texts_take : (n : ℕ) (xs : List Lexeme) → texts (take n xs) ≡ take n (texts xs)
+pub texts_take : (n : ℕ) (xs : List Lexeme) → texts (take n xs) ≡ take n (texts xs)
 texts_take zero xs = refl
 texts_take (suc n) [] = refl
 texts_take (suc n) (x ∷ xs) = ap (λ (ts : List (List ℕ)). x.text.now ∷ ts) (texts_take n xs)
 
-texts_drop : (n : ℕ) (xs : List Lexeme) → texts (drop n xs) ≡ drop n (texts xs)
+pub texts_drop : (n : ℕ) (xs : List Lexeme) → texts (drop n xs) ≡ drop n (texts xs)
 texts_drop zero xs = refl
 texts_drop (suc n) [] = refl
 texts_drop (suc n) (x ∷ xs) = texts_drop n xs

@@ -8,5 +8,6 @@ pub mod Resolving
 pub mod KnownSettings
 pub mod ActionReading
 pub mod Reading
+pub mod ActionOutcomes
 pub mod Outcomes
 pub mod Laws

@@ -4,6 +4,7 @@
 mod action_laws;
 mod action_names;
 mod action_parser;
+mod action_reader;
 mod action_test;
 mod assign;
 mod domain;
