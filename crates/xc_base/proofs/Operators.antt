@@ -2,19 +2,9 @@
 use Rattle.std.proofs.Common.{◌≡◌, ℕ, zero, suc, ◌<◌, ◌≤◌, Bool, true, false, cond, List, [], ◌∷◌, ◌++◌, length, length-append, append_assoc, Option, Some, None, refl, sym, ◌∙◌, subst, ap, arith}
 use Rattle.std.specs.Option.{option_and_then}
 use Rattle.std.specs.Str.{bytes_eq}
+use Rattle.std.proofs.lemmas.Option.{none-some, same_Some, cond_some}
 use Rattle.xc_base.specs.Operators.{Front, behind, chain_step, chain_up_to, chain, chained, Shortens, Begins, IsSound}
 use Rattle.xc_base.proofs.Naming.{same_bytes, bytes_refl}
-
-none_is_not : {X : Type 0} (y : X) → None ≡ Some y → ⊥
-none_is_not y e = cc
-
-some_same : {X : Type 0} {x y : X} → Some x ≡ Some y → x ≡ y
-some_same e = cc
-
--- what a test gives where it gives something
-cond_some : {X : Type 0} (b : Bool) (x y : X) → cond b (Some x) None ≡ Some y → (b ≡ true) × (x ≡ y)
-cond_some true x y h = (refl, cc)
-cond_some false x y h = absurd (none_is_not y h)
 
 -- the tokens are the token and what stands behind it
 pub behind_cut : (mark : List ℕ) (tokens more : List (List ℕ)) → behind mark tokens ≡ Some more → tokens ≡ mark ∷ more
@@ -73,7 +63,7 @@ module _ {T : Type 0} (mark : List ℕ) (join : T → T → T) (part : List (Lis
   -- operator and part are taken into the tree
   pub chain_goes : Shortens part → (left : T) (tokens more : List (List ℕ)) (f : Front T) → behind mark tokens ≡ Some more → part more ≡ Some f → chain mark join part left tokens ≡ chain mark join part (join left f.tree) f.rest
   unfolding chain chain_up_to
-  chain_goes s left [] more f h k = absurd (none_is_not more h)
+  chain_goes s left [] more f h k = absurd (none-some more h)
   chain_goes s left (t ∷ tokens) more f h k =
       let a = behind_shorter mark (t ∷ tokens) more h in
       let b = s.shorter more f k in
@@ -106,14 +96,14 @@ module _ {T : Type 0} (mark : List ℕ) (join : T → T → T) (part : List (Lis
     (more_parts : (left right : List (List ℕ)) (a b : T) → Chain left a → Part right b → Chain (left ++ mark ∷ right) (join a b))
     (sound : IsSound Part part) where
   sound_end : (front : List (List ℕ)) (left : T) (tokens : List (List ℕ)) (f : Front T) → Chain front left → Some (record { tree = left; rest = tokens }) ≡ Some f → Begins Chain (front ++ tokens) f
-  sound_end front left tokens f c h = subst (λ (g : Front T). Begins Chain (front ++ tokens) g) (some_same h) (record { front = front; cut = refl; spelled = c })
+  sound_end front left tokens f c h = subst (λ (g : Front T). Begins Chain (front ++ tokens) g) (same_Some _ _ h) (record { front = front; cut = refl; spelled = c })
 
   -- one step, by what stands behind and what the part is
   sound_by_part : (go : T → List (List ℕ) → Option (Front T))
       → ((front : List (List ℕ)) (left : T) (tokens : List (List ℕ)) (f : Front T) → Chain front left → go left tokens ≡ Some f → Begins Chain (front ++ tokens) f)
       → (front : List (List ℕ)) (left : T) (tokens rest : List (List ℕ)) (f : Front T) → Chain front left → tokens ≡ mark ∷ rest
       → (o : Option (Front T)) → part rest ≡ o → option_and_then (λ (g : Front T). go (join left g.tree) g.rest) o ≡ Some f → Begins Chain (front ++ tokens) f
-  sound_by_part go next front left tokens rest f c cut None e h = absurd (none_is_not f h)
+  sound_by_part go next front left tokens rest f c cut None e h = absurd (none-some f h)
   sound_by_part go next front left tokens rest f c cut (Some g) e h =
       let b = sound.begins rest g e in
       let after = next (front ++ mark ∷ b.front) (join left g.tree) g.rest f (more_parts front b.front left g.tree c b.spelled) h in
@@ -137,7 +127,7 @@ module _ {T : Type 0} (mark : List ℕ) (join : T → T → T) (part : List (Lis
   chained_sound one = record { begins = λ tokens f h. by_part tokens f (part tokens) refl h }
     where
       by_part : (tokens : List (List ℕ)) (f : Front T) (o : Option (Front T)) → part tokens ≡ o → option_and_then (λ (g : Front T). chain mark join part g.tree g.rest) o ≡ Some f → Begins Chain tokens f
-      by_part tokens f None e h = absurd (none_is_not f h)
+      by_part tokens f None e h = absurd (none-some f h)
       by_part tokens f (Some g) e h =
           let b = sound.begins tokens g e in
           subst (λ (all : List (List ℕ)). Begins Chain all f) (sym b.cut) (chain_sound (length g.rest) b.front g.tree g.rest f (one b.front g.tree b.spelled) h)

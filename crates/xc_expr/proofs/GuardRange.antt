@@ -2,10 +2,10 @@
 use Rattle.std.proofs.Common.{◌≡◌, ℕ, ◌<◌, Bool, true, false, cond, ◌&&◌, nat_lt, List, length, map, Option, Some, None, Result, Ok, Err, IfOk, refl, sym, ◌∙◌, subst, ap, arith}
 use Rattle.std.specs.Option.{option_map, IfSome}
 use Rattle.std.proofs.lemmas.Bool.{and_from, lt-ltb}
-use Rattle.std.proofs.lemmas.List.{length-map}
-use Rattle.xc_base.specs.Names.{are_same}
+use Rattle.std.proofs.lemmas.Option.{none-some, same_Some}
 use Rattle.xc_base.specs.declared.memory.Memory.{Memory}
-use Rattle.xc_base.proofs.Naming.{found_in_range}
+use Rattle.xc_expr.proofs.KnownNames.{variable_in_range}
+use Rattle.xc_expr.proofs.KnownActions.{known_value, known_peer}
 use Rattle.xc_expr.specs.Variables.{names_of, values_at, are_fit}
 use Rattle.xc_expr.specs.Tests.{Test, test_of, has_value, are_peers, is_in_range}
 use Rattle.xc_expr.specs.Tests as tests
@@ -14,40 +14,19 @@ use Rattle.xc_expr.specs.Resolving.{then_some, both, variable, value, peer, or_p
 use Rattle.xc_expr.specs.declared.domain.Domain.{Domain}
 use Rattle.xc_expr.specs.declared.guard.Guard.{Guard}
 
-none_is_not : {X : Type 0} (y : X) → None ≡ Some y → ⊥
-none_is_not y e = cc
-
-some_same : {X : Type 0} {x y : X} → Some x ≡ Some y → x ≡ y
-some_same e = cc
-
--- a variable that is found is there, and so is a value
-pub variable_there : (vars : List Domain) (name : List ℕ) (x : ℕ) → variable vars name ≡ Some x → nat_lt x (length vars) ≡ true
-variable_there vars name x e = lt-ltb _ _ (subst (λ (n : ℕ). x < n) (length-map vars (λ (d : Domain). d.name)) (found_in_range (names_of vars) name x e))
-
-pub value_there : (vars : List Domain) (x : ℕ) (name : List ℕ) (v : ℕ) → nat_lt x (length vars) ≡ true → value vars x name ≡ Some v → has_value vars x v ≡ true
-value_there vars x name v h e = and_from _ _ h (lt-ltb _ _ (found_in_range (values_at vars x) name v e))
-
-peer_by : (vars : List Domain) (x y z : ℕ) (b : Bool) → nat_lt x (length vars) ≡ true → nat_lt z (length vars) ≡ true → are_same (values_at vars x) (values_at vars z) ≡ b → cond b (Some z) None ≡ Some y → are_peers vars x y ≡ true
-peer_by vars x y z true h k s e = subst (λ (w : ℕ). are_peers vars x w ≡ true) (some_same e) (and_from _ _ (and_from _ _ h k) s)
-peer_by vars x y z false h k s e = absurd (none_is_not y e)
-
-peer_by_place : (vars : List Domain) (x : ℕ) (name : List ℕ) (y : ℕ) (o : Option ℕ) → nat_lt x (length vars) ≡ true → variable vars name ≡ o → then_some o (λ z. cond (are_same (values_at vars x) (values_at vars z)) (Some z) None) ≡ Some y → are_peers vars x y ≡ true
-peer_by_place vars x name y None h p e = absurd (none_is_not y e)
-peer_by_place vars x name y (Some z) h p e = peer_by vars x y z (are_same (values_at vars x) (values_at vars z)) h (variable_there vars name z p) refl e
-
--- a peer that is found is one
-pub peer_there : (vars : List Domain) (x : ℕ) (name : List ℕ) (y : ℕ) → nat_lt x (length vars) ≡ true → peer vars x name ≡ Some y → are_peers vars x y ≡ true
-peer_there vars x name y h e = peer_by_place vars x name y (variable vars name) h refl e
+-- a variable that is found is there
+variable_there : (vars : List Domain) (name : List ℕ) (x : ℕ) → variable vars name ≡ Some x → nat_lt x (length vars) ≡ true
+variable_there vars name x e = lt-ltb x (length vars) (variable_in_range vars name x e)
 
 -- what is said of a value that a variable has, or of a peer, holds of an operand
 operand_by : {Y : Type 0} (Holds : Y → Type 0) (vars : List Domain) (x : ℕ) (w : List ℕ) (is same : ℕ → Y) (t : Y) → nat_lt x (length vars) ≡ true
     → ((v : ℕ) → has_value vars x v ≡ true → Holds (is v)) → ((y : ℕ) → are_peers vars x y ≡ true → Holds (same y))
     → (found other : Option ℕ) → value vars x w ≡ found → peer vars x w ≡ other → or_peer found is other same ≡ Some t → Holds t
-operand_by Holds vars x w is same t h a b (Some v) other p q e = subst Holds (some_same e) (a v (value_there vars x w v h p))
-operand_by Holds vars x w is same t h a b None (Some y) p q e = subst Holds (some_same e) (b y (peer_there vars x w y h q))
-operand_by Holds vars x w is same t h a b None None p q e = absurd (none_is_not t e)
+operand_by Holds vars x w is same t h a b (Some v) other p q e = subst Holds (same_Some _ _ e) (a v (known_value vars x w v h p))
+operand_by Holds vars x w is same t h a b None (Some y) p q e = subst Holds (same_Some _ _ e) (b y (known_peer vars x w y h q))
+operand_by Holds vars x w is same t h a b None None p q e = absurd (none-some t e)
 
-pub operand_there : {Y : Type 0} (Holds : Y → Type 0) (vars : List Domain) (x : ℕ) (w : List ℕ) (is same : ℕ → Y) (t : Y) → nat_lt x (length vars) ≡ true
+operand_there : {Y : Type 0} (Holds : Y → Type 0) (vars : List Domain) (x : ℕ) (w : List ℕ) (is same : ℕ → Y) (t : Y) → nat_lt x (length vars) ≡ true
     → ((v : ℕ) → has_value vars x v ≡ true → Holds (is v)) → ((y : ℕ) → are_peers vars x y ≡ true → Holds (same y)) → operand vars x w is same ≡ Some t → Holds t
 operand_there Holds vars x w is same t h a b e = operand_by Holds vars x w is same t h a b (value vars x w) (peer vars x w) refl refl e
 
@@ -58,22 +37,22 @@ IsInRange vars t = is_in_range vars t ≡ true
 comparison_range : (vars : List Domain) (name w : List ℕ) (is same : ℕ → ℕ → Test) (t : Test)
     → ((x v : ℕ) → has_value vars x v ≡ true → IsInRange vars (is x v)) → ((x y : ℕ) → are_peers vars x y ≡ true → IsInRange vars (same x y))
     → (o : Option ℕ) → variable vars name ≡ o → then_some o (λ x. operand vars x w (is x) (same x)) ≡ Some t → IsInRange vars t
-comparison_range vars name w is same t a b None p e = absurd (none_is_not t e)
+comparison_range vars name w is same t a b None p e = absurd (none-some t e)
 comparison_range vars name w is same t a b (Some x) p e = operand_there (IsInRange vars) vars x w (is x) (same x) t (variable_there vars name x p) (a x) (b x) e
 
 not_range : (vars : List Domain) (t : Test) (o : Option Test) → ((u : Test) → o ≡ Some u → IsInRange vars u) → option_map tests.Not o ≡ Some t → IsInRange vars t
-not_range vars t None h e = absurd (none_is_not t e)
-not_range vars t (Some u) h e = subst (IsInRange vars) (some_same e) (h u refl)
+not_range vars t None h e = absurd (none-some t e)
+not_range vars t (Some u) h e = subst (IsInRange vars) (same_Some _ _ e) (h u refl)
 
 both_range : (vars : List Domain) (join : Test → Test → Test) (t : Test) (o p : Option Test) → ((u v : Test) → IsInRange vars u → IsInRange vars v → IsInRange vars (join u v))
     → ((u : Test) → o ≡ Some u → IsInRange vars u) → ((v : Test) → p ≡ Some v → IsInRange vars v) → both join o p ≡ Some t → IsInRange vars t
-both_range vars join t None p j h k e = absurd (none_is_not t e)
-both_range vars join t (Some u) None j h k e = absurd (none_is_not t e)
-both_range vars join t (Some u) (Some v) j h k e = subst (IsInRange vars) (some_same e) (j u v (h u refl) (k v refl))
+both_range vars join t None p j h k e = absurd (none-some t e)
+both_range vars join t (Some u) None j h k e = absurd (none-some t e)
+both_range vars join t (Some u) (Some v) j h k e = subst (IsInRange vars) (same_Some _ _ e) (j u v (h u refl) (k v refl))
 
 pub guard_in_range : (vars : List Domain) (g : Written) (test : Test) → resolved vars g ≡ Some test → is_in_range vars test ≡ true
-guard_in_range vars True t e = subst (IsInRange vars) (some_same e) refl
-guard_in_range vars False t e = subst (IsInRange vars) (some_same e) refl
+guard_in_range vars True t e = subst (IsInRange vars) (same_Some _ _ e) refl
+guard_in_range vars False t e = subst (IsInRange vars) (same_Some _ _ e) refl
 guard_in_range vars (Equal name w) t e = comparison_range vars name w tests.Is tests.Same t (λ x v h. h) (λ x y h. h) (variable vars name) refl e
 guard_in_range vars (Unequal name w) t e = comparison_range vars name w tests.IsNot tests.Differ t (λ x v h. h) (λ x y h. h) (variable vars name) refl e
 guard_in_range vars (Not g) t e = not_range vars t (resolved vars g) (λ u h. guard_in_range vars g u h) e

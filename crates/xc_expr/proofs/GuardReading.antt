@@ -2,6 +2,7 @@
 use Rattle.std.proofs.Common.{◌≡◌, ◌↔◌, ℕ, zero, suc, ◌<◌, ◌≤◌, Bool, true, false, cond, not, ◌&&◌, List, [], ◌∷◌, ◌++◌, length, append_assoc, append-nil, codes, Option, Some, None, refl, sym, ◌∙◌, subst, ap, arith}
 use Rattle.std.specs.Option.{option_map, option_and_then}
 use Rattle.std.specs.Str.{bytes_eq}
+use Rattle.std.proofs.lemmas.Option.{none-some, same_Some}
 use Rattle.xc_base.specs.Operators.{Front, behind, alone, whole, chain, chained, Shortens, Begins, IsSound}
 use Rattle.xc_base.proofs.Naming.{same_bytes}
 use Rattle.xc_base.proofs.Operators.{behind_cut, chain_ends, chain_goes, chained_begins, sound_shortens, chained_sound}
@@ -10,38 +11,32 @@ use Rattle.xc_expr.specs.Written.IsSpelled.{truth, falsity, equal, unequal, nega
 use Rattle.xc_expr.specs.GuardReading.{comparison, literal, atom, negation, closed, or_else, products, sums, nested_by, basic, nested, product, sum}
 use Rattle.xc_expr.specs.Reading.{guard_in}
 
-none_is_not : {X : Type 0} (y : X) → None ≡ Some y → ⊥
-none_is_not y e = cc
-
-some_same : {X : Type 0} {x y : X} → Some x ≡ Some y → x ≡ y
-some_same e = cc
-
 -- tokens that begin with some that are spelled as a tree
 begins_with : (l : Level) (d : ℕ) (front rest tokens : List (List ℕ)) (g : Written) (f : Front Written) → tokens ≡ front ++ rest → IsSpelled l d front g → Some (record { tree = g; rest = rest }) ≡ Some f → Begins (IsSpelled l d) tokens f
-begins_with l d front rest tokens g f cut spelled e = subst (λ (x : Front Written). Begins (IsSpelled l d) tokens x) (some_same e) (record { front = front; cut = cut; spelled = spelled })
+begins_with l d front rest tokens g f cut spelled e = subst (λ (x : Front Written). Begins (IsSpelled l d) tokens x) (same_Some _ _ e) (record { front = front; cut = cut; spelled = spelled })
 
 -- a comparison, by the outcomes of its tests
 comparison_by : (d : ℕ) (x sign w : List ℕ) (rest : List (List ℕ)) (f : Front Written) → is_variable_name x ≡ true
     → (named is_equal is_unequal : Bool) → is_value_name w ≡ named → bytes_eq sign (codes "=") ≡ is_equal → bytes_eq sign (codes "!=") ≡ is_unequal
     → cond named (cond is_equal (Some (record { tree = Equal x w; rest = rest })) (cond is_unequal (Some (record { tree = Unequal x w; rest = rest })) None)) None ≡ Some f
     → Begins (IsSpelled Basic d) (x ∷ sign ∷ w ∷ rest) f
-comparison_by d x sign w rest f v false a b n p q e = absurd (none_is_not f e)
+comparison_by d x sign w rest f v false a b n p q e = absurd (none-some f e)
 comparison_by d x sign w rest f v true true b n p q e =
     begins_with Basic d (x ∷ codes "=" ∷ w ∷ []) rest (x ∷ sign ∷ w ∷ rest) (Equal x w) f (ap (λ (s : List ℕ). x ∷ s ∷ w ∷ rest) (same_bytes sign (codes "=") p)) (equal d x w v n) e
 comparison_by d x sign w rest f v true false true n p q e =
     begins_with Basic d (x ∷ codes "!=" ∷ w ∷ []) rest (x ∷ sign ∷ w ∷ rest) (Unequal x w) f (ap (λ (s : List ℕ). x ∷ s ∷ w ∷ rest) (same_bytes sign (codes "!=") q)) (unequal d x w v n) e
-comparison_by d x sign w rest f v true false false n p q e = absurd (none_is_not f e)
+comparison_by d x sign w rest f v true false false n p q e = absurd (none-some f e)
 
 comparison_sound : (d : ℕ) (x : List ℕ) (tokens : List (List ℕ)) (f : Front Written) → is_variable_name x ≡ true → comparison x tokens ≡ Some f → Begins (IsSpelled Basic d) (x ∷ tokens) f
-comparison_sound d x [] f v e = absurd (none_is_not f e)
-comparison_sound d x (sign ∷ []) f v e = absurd (none_is_not f e)
+comparison_sound d x [] f v e = absurd (none-some f e)
+comparison_sound d x (sign ∷ []) f v e = absurd (none-some f e)
 comparison_sound d x (sign ∷ w ∷ rest) f v e = comparison_by d x sign w rest f v (is_value_name w) (bytes_eq sign (codes "=")) (bytes_eq sign (codes "!=")) refl refl refl e
 
 literal_by : (d : ℕ) (token : List ℕ) (rest : List (List ℕ)) (f : Front Written) (is_true is_false : Bool) → bytes_eq token (codes "true") ≡ is_true → bytes_eq token (codes "false") ≡ is_false
     → cond is_true (Some (record { tree = True; rest = rest })) (cond is_false (Some (record { tree = False; rest = rest })) None) ≡ Some f → Begins (IsSpelled Basic d) (token ∷ rest) f
 literal_by d token rest f true b p q e = begins_with Basic d (codes "true" ∷ []) rest (token ∷ rest) True f (ap (λ (t : List ℕ). t ∷ rest) (same_bytes token (codes "true") p)) (truth d) e
 literal_by d token rest f false true p q e = begins_with Basic d (codes "false" ∷ []) rest (token ∷ rest) False f (ap (λ (t : List ℕ). t ∷ rest) (same_bytes token (codes "false") q)) (falsity d) e
-literal_by d token rest f false false p q e = absurd (none_is_not f e)
+literal_by d token rest f false false p q e = absurd (none-some f e)
 
 atom_by : (d : ℕ) (token : List ℕ) (rest : List (List ℕ)) (f : Front Written) (b : Bool) → is_variable_name token ≡ b → cond b (comparison token rest) (literal token rest) ≡ Some f → Begins (IsSpelled Basic d) (token ∷ rest) f
 atom_by d token rest f true v e = comparison_sound d token rest f v e
@@ -50,7 +45,7 @@ atom_by d token rest f false v e = literal_by d token rest f (bytes_eq token (co
 -- an atom is spelled so, at any depth
 atom_sound : (d : ℕ) (tokens : List (List ℕ)) (f : Front Written) → atom tokens ≡ Some f → Begins (IsSpelled Basic d) tokens f
 unfolding atom
-atom_sound d [] f e = absurd (none_is_not f e)
+atom_sound d [] f e = absurd (none-some f e)
 atom_sound d (token ∷ rest) f e = atom_by d token rest f (is_variable_name token) refl e
 
 -- products and sums of sound parts are sound
@@ -63,7 +58,7 @@ sums_sound d s = chained_sound (codes "|") Or (products (basic d)) (IsSpelled Pr
 -- what stands behind `!`
 negation_sound : (d : ℕ) → IsSound (IsSpelled Basic d) (basic d) → (tokens rest : List (List ℕ)) (f : Front Written) → tokens ≡ codes "!" ∷ rest
     → (o : Option (Front Written)) → basic d rest ≡ o → negation o ≡ Some f → Begins (IsSpelled Basic (suc d)) tokens f
-negation_sound d s tokens rest f cut None p e = absurd (none_is_not f e)
+negation_sound d s tokens rest f cut None p e = absurd (none-some f e)
 negation_sound d s tokens rest f cut (Some g) p e =
     let b = s.begins rest g p in
     begins_with Basic (suc d) (codes "!" ∷ b.front) g.rest tokens (Not g.tree) f (cut ∙ ap (λ more. codes "!" ∷ more) b.cut) (negated d b.front g.tree b.spelled) e
@@ -71,21 +66,21 @@ negation_sound d s tokens rest f cut (Some g) p e =
 -- what stands between brackets
 closed_by : (d : ℕ) (tokens rest : List (List ℕ)) (f g : Front Written) → tokens ≡ codes "(" ∷ rest → Begins (IsSpelled Sum d) rest g
     → (o : Option (List (List ℕ))) → behind (codes ")") g.rest ≡ o → option_map (λ more. record { tree = g.tree; rest = more }) o ≡ Some f → Begins (IsSpelled Basic (suc d)) tokens f
-closed_by d tokens rest f g cut b None p e = absurd (none_is_not f e)
+closed_by d tokens rest f g cut b None p e = absurd (none-some f e)
 closed_by d tokens rest f g cut b (Some more) p e =
     let inside : rest ≡ (b.front ++ codes ")" ∷ []) ++ more = b.cut ∙ ap (λ r. b.front ++ r) (behind_cut (codes ")") g.rest more p) ∙ sym (append_assoc b.front (codes ")" ∷ []) more) in
     begins_with Basic (suc d) (codes "(" ∷ b.front ++ codes ")" ∷ []) more tokens g.tree f (cut ∙ ap (λ r. codes "(" ∷ r) inside) (enclosed d b.front g.tree b.spelled) e
 
 closed_sound : (d : ℕ) → IsSound (IsSpelled Basic d) (basic d) → (tokens rest : List (List ℕ)) (f : Front Written) → tokens ≡ codes "(" ∷ rest
     → (o : Option (Front Written)) → sums (basic d) rest ≡ o → closed o ≡ Some f → Begins (IsSpelled Basic (suc d)) tokens f
-closed_sound d s tokens rest f cut None p e = absurd (none_is_not f e)
+closed_sound d s tokens rest f cut None p e = absurd (none-some f e)
 closed_sound d s tokens rest f cut (Some g) p e = closed_by d tokens rest f g cut ((sums_sound d s).begins rest g p) (behind (codes ")") g.rest) refl e
 
 nested_sound : (d : ℕ) → IsSound (IsSpelled Basic d) (basic d) → (tokens : List (List ℕ)) (f : Front Written)
     → (mark open_mark : Option (List (List ℕ))) → behind (codes "!") tokens ≡ mark → behind (codes "(") tokens ≡ open_mark → nested_by (basic d) mark open_mark ≡ Some f → Begins (IsSpelled Basic (suc d)) tokens f
 nested_sound d s tokens f (Some rest) o p q e = negation_sound d s tokens rest f (behind_cut (codes "!") tokens rest p) (basic d rest) refl e
 nested_sound d s tokens f None (Some rest) p q e = closed_sound d s tokens rest f (behind_cut (codes "(") tokens rest q) (sums (basic d) rest) refl e
-nested_sound d s tokens f None None p q e = absurd (none_is_not f e)
+nested_sound d s tokens f None None p q e = absurd (none-some f e)
 
 basic_by : (d : ℕ) → IsSound (IsSpelled Basic d) (basic d) → (tokens : List (List ℕ)) (f : Front Written) (o : Option (Front Written)) → atom tokens ≡ o
     → or_else o (nested_by (basic d) (behind (codes "!") tokens) (behind (codes "(") tokens)) ≡ Some f → Begins (IsSpelled Basic (suc d)) tokens f
@@ -182,12 +177,12 @@ guard_complete tokens g s =
 
 whole_sound : (tokens : List (List ℕ)) (g t : Written) (rest : List (List ℕ)) → Begins (IsSpelled Sum depth_limit) tokens (record { tree = t; rest = rest }) → alone t rest ≡ Some g → IsGuard tokens g
 whole_sound tokens g t [] b e =
-    subst (λ (h : Written). IsGuard tokens h) (some_same e)
+    subst (λ (h : Written). IsGuard tokens h) (same_Some _ _ e)
     (subst (λ (all : List (List ℕ)). IsSpelled Sum depth_limit all t) (sym (append-nil b.front) ∙ sym b.cut) b.spelled)
-whole_sound tokens g t (x ∷ rest) b e = absurd (none_is_not g e)
+whole_sound tokens g t (x ∷ rest) b e = absurd (none-some g e)
 
 guard_by : (tokens : List (List ℕ)) (g : Written) (o : Option (Front Written)) → sum depth_limit tokens ≡ o → whole o ≡ Some g → IsGuard tokens g
-guard_by tokens g None p e = absurd (none_is_not g e)
+guard_by tokens g None p e = absurd (none-some g e)
 guard_by tokens g (Some f) p e = whole_sound tokens g f.tree f.rest ((sum_sound depth_limit).begins tokens f p) e
 
 pub guard_sound : (tokens : List (List ℕ)) (g : Written) → guard_in tokens ≡ Some g → IsGuard tokens g
@@ -195,11 +190,11 @@ unfolding guard_in
 guard_sound tokens g e = guard_by tokens g (sum depth_limit tokens) refl e
 
 pub guard_unique : (tokens : List (List ℕ)) (g h : Written) → IsGuard tokens g → IsGuard tokens h → g ≡ h
-guard_unique tokens g h s t = some_same (sym (guard_complete tokens g s) ∙ guard_complete tokens h t)
+guard_unique tokens g h s t = same_Some _ _ (sym (guard_complete tokens g s) ∙ guard_complete tokens h t)
 
 -- no tokens that are no guard are spelled as one
 pub no_guard : (tokens : List (List ℕ)) → guard_in tokens ≡ None → (g : Written) → IsGuard tokens g → ⊥
-no_guard tokens e g s = none_is_not g (sym e ∙ guard_complete tokens g s)
+no_guard tokens e g s = none-some g (sym e ∙ guard_complete tokens g s)
 
 pub guard_read : (tokens : List (List ℕ)) (g : Written) → (guard_in tokens ≡ Some g) ↔ IsGuard tokens g
 guard_read tokens g = (guard_sound tokens g, guard_complete tokens g)

@@ -6,7 +6,9 @@ pub mod Moving
 pub mod Written
 pub mod Resolving
 pub mod GuardReading
+pub mod KnownSettings
 pub mod ActionReading
 pub mod Reading
+pub mod ActionOutcomes
 pub mod Outcomes
 pub mod Laws

@@ -1,6 +1,7 @@
 -- Which guard, and which action, tokens are: functions that decide it.
-use Rattle.std.specs.Prelude.{ℕ, List, Option, None}
+use Rattle.std.specs.Prelude.{ℕ, if◌then◌else◌, List, [], Option, Some, None}
 use Rattle.xc_base.specs.Operators.{whole}
+use Rattle.xc_expr.specs.ActionReading.{is_skip, assignments_in}
 use Rattle.xc_expr.specs.GuardReading.{sum}
 use Rattle.xc_expr.specs.Written.{Written, Assigned, depth_limit}
 
@@ -10,4 +11,4 @@ guard_in tokens = whole (sum depth_limit tokens)
 
 -- the action that the tokens are, where they are one
 unfoldable pub action_in : List (List ℕ) → Option (List Assigned)
-action_in tokens = None
+action_in tokens = if is_skip tokens then Some [] else assignments_in [] tokens

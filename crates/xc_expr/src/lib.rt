@@ -1,8 +1,10 @@
 //! Guards and actions over variables: how they are written, and what they say of states.
 #![tactic(auto)]
 
+mod action_laws;
 mod action_names;
 mod action_parser;
+mod action_reader;
 mod action_test;
 mod assign;
 mod domain;
@@ -10,6 +12,7 @@ mod fault;
 mod guard;
 mod guard_names;
 mod guard_parser;
+mod guard_reader;
 mod guard_test;
 mod laws;
 mod operands;
@@ -19,6 +22,7 @@ mod read;
 mod setting;
 mod words;
 
+pub use action_laws::actions_are_read;
 pub use action_names::{resolve_action, sets_twice};
 pub use action_parser::parse_action;
 pub use action_test::{moves, moves_in};

@@ -1,39 +1,23 @@
 ghost use Rattle.std.specs.Prelude.{◌≡◌, ◌<◌, ◌≤◌, true, length, IfOk, IfErr};
-ghost use Rattle.xc_base.specs.Lines.{rows_in, row_at, texts};
+ghost use Rattle.xc_base.specs.Lines.{rows_in, row_at};
 ghost use Rattle.xc_expr.specs.Variables.{are_fit};
 ghost use Rattle.xc_expr.specs.Tests.{test_of, is_in_range};
 ghost use Rattle.xc_expr.specs.Actions.{is_action_in_range};
 ghost use Rattle.xc_expr.specs.Outcomes.{tokens_at, IsTest, IsGuardFault, AreAssigns, IsActionFault};
 
+use crate::action_reader::action_of;
 use crate::assign::Action;
 use crate::domain::Vars;
 use crate::fault::ExprFault;
 use crate::guard::Guard;
-use crate::guard_names::resolve_guard;
-use crate::guard_parser::parse_guard;
+use crate::guard_reader::guard_of;
 use std::alloc::Global;
-use xc_base::{Lexeme, Lines};
-
-/// The guard that tokens are.
-#[tactic(auto, using(crate::proofs::GuardOutcomes::guard_steps))]
-fn guard_of(alloc: Global, tokens: &[Lexeme], vars: &Vars) -> Result<Guard, ExprFault>
-    requires { are_fit vars.now ≡ true }
-    ensures ok { IfOk result (λ guard. IsTest vars.now (texts tokens.now) (test_of guard)) }
-    ensures range { IfOk result (λ guard. is_in_range vars.now (test_of guard) ≡ true) }
-    ensures err { IfErr result (IsGuardFault vars.now (texts tokens.now)) }
-{
-    let Some(phrase) = parse_guard(alloc, tokens)? else {
-        return Err(ExprFault::Grammar);
-    };
-    match resolve_guard(alloc, &phrase, vars)? {
-        Some(guard) => Ok(guard),
-        None => Err(ExprFault::Unknown),
-    }
-}
+use xc_base::Lines;
 
 /// The guard that the tokens of a row from one place up to another are.
 ///
 /// It fails where they are no guard, where they name what there is not, and where there is no memory.
+#[tactic(auto, using(std::proofs::lemmas::Grind::common_steps, crate::proofs::ActionTokens::texts_length, crate::proofs::ActionOutcomes::texts_between))]
 pub fn read_guard(
     alloc: Global,
     lines: &Lines,
@@ -58,6 +42,7 @@ pub fn read_guard(
 ///
 /// It fails where they are no action, where they set a variable twice, where they name what there is not, and where
 /// there is no memory.
+#[tactic(auto, using(std::proofs::lemmas::Grind::common_steps, crate::proofs::ActionTokens::texts_length, crate::proofs::ActionOutcomes::texts_between))]
 pub fn read_action(
     alloc: Global,
     lines: &Lines,
@@ -74,6 +59,6 @@ pub fn read_action(
     ensures range { IfOk result (λ action. is_action_in_range vars.now action ≡ true) }
     ensures err { IfErr result (IsActionFault vars.now (tokens_at lines.now row from to)) }
 {
-    let _alloc = alloc;
-    Err(ExprFault::Memory)
+    let lexemes = lines.lexemes(alloc, row)?;
+    action_of(alloc, &lexemes.as_slice()[from..to], vars)
 }

@@ -3,7 +3,7 @@ use Rattle.std.proofs.lemmas.Grind.{common_steps}
 use Rattle.xc_base.specs.Lines.{texts}
 use Rattle.xc_expr.specs.Reading.{guard_in}
 use Rattle.xc_expr.proofs.GuardReading.{no_guard}
-use Rattle.xc_expr.proofs.read.guard_of.Goals as goal
+use Rattle.xc_expr.proofs.guard_reader.guard_of.Goals as goal
 
 pub returns-in_default-clause-err : goal.returns-in_default-clause-err
 returns-in_default-clause-err c =
