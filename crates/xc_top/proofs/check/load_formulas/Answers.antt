@@ -1,6 +1,5 @@
-use Rattle.std.proofs.Common.{rules}
 use Rattle.xc_top.proofs.Checking.{formulas_loaded}
 use Rattle.xc_top.proofs.check.load_formulas.Goals as goal
 
 pub returns-clause-prepared : goal.returns-clause-prepared
-returns-clause-prepared g c = formulas_loaded _ _ _ c.in_ok-bytes.bytes.items _ _ _ c.in_ok-bytes.ensures.loaded (search rules)
+returns-clause-prepared g c = formulas_loaded _ _ _ c.deref.result.now _ _ _ (rw c.deref.ensures.value c.in_ok-bytes.ensures.loaded) c.with_formulas.ensures
