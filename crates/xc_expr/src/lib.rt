@@ -35,3 +35,6 @@ pub use phrase::Phrase;
 pub use places::places_of;
 pub use read::{read_action, read_guard};
 pub use setting::Setting;
+
+#[cfg(test)]
+mod action_tests;
