@@ -40,7 +40,7 @@ pub fn read_guard(
 ///
 /// It fails where they are no action, where they set a variable twice, where they name what there is not, and where
 /// there is no memory.
-#[tactic(auto, using(std::proofs::lemmas::Grind::common_steps, crate::proofs::ActionTokens::texts_length, crate::proofs::ActionOutcomes::texts_between))]
+#[tactic(auto, using(std::proofs::lemmas::Grind::common_steps, crate::proofs::ActionTokens::texts_length, crate::proofs::ActionTokens::texts_between))]
 pub fn read_action(
     alloc: Global,
     lines: &Lines,
