@@ -5,6 +5,7 @@ pub mod Actions
 pub mod Moving
 pub mod Written
 pub mod Resolving
+pub mod GuardReading
 pub mod KnownSettings
 pub mod ActionReading
 pub mod Reading

@@ -12,7 +12,9 @@ mod fault;
 mod guard;
 mod guard_names;
 mod guard_parser;
+mod guard_reader;
 mod guard_test;
+mod laws;
 mod operands;
 mod phrase;
 mod places;
@@ -31,6 +33,7 @@ pub use guard::Guard;
 pub use guard_names::resolve_guard;
 pub use guard_parser::parse_guard;
 pub use guard_test::{holds, holds_in};
+pub use laws::guards_are_read;
 pub use phrase::Phrase;
 pub use places::places_of;
 pub use read::{read_action, read_guard};
@@ -38,3 +41,5 @@ pub use setting::Setting;
 
 #[cfg(test)]
 mod action_tests;
+#[cfg(test)]
+mod tests;
