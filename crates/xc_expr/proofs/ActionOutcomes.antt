@@ -1,10 +1,7 @@
 -- What comes of tokens, from what comes of the action that they are.
-use Rattle.std.proofs.Common.{◌≡◌, ℕ, ◌-◌, List, map, take, drop, Option, Some, None, refl, sym, ap, ◌∙◌}
+use Rattle.std.proofs.Common.{◌≡◌, ℕ, List, map, Option, Some, None, sym, ap, ◌∙◌}
 use Rattle.std.specs.Option.{option_map}
-use Rattle.xc_base.specs.Lines.{texts}
-use Rattle.xc_base.specs.declared.lines.Lexeme.{Lexeme}
 use Rattle.xc_expr.proofs.ActionSpelling.{action_sound, action_complete}
-use Rattle.xc_expr.proofs.ActionTokens.{texts_take, texts_drop}
 use Rattle.xc_expr.specs.ActionOutcomes.{AreKnown, IsNameFault}
 use Rattle.xc_expr.specs.Outcomes.{AreAssigns, IsActionFault}
 use Rattle.xc_expr.specs.Reading.{action_in}
@@ -30,7 +27,3 @@ is_no_action tokens read e none action h =
     let nothing : None ≡ action_in tokens = sym (ap (option_map (map set)) none) ∙ e in
     let something : action_in tokens ≡ Some action = action_complete tokens action h in
     cc
-
--- the tokens from one place up to another
-pub texts_between : (xs : List Lexeme) (start end : ℕ) → texts (take (end - start) (drop start xs)) ≡ take (end - start) (drop start (texts xs))
-texts_between xs start end = rw (texts_take (end - start) (drop start xs), texts_drop start xs) refl

@@ -6,8 +6,7 @@ use Rattle.std.specs.Str.{bytes_eq}
 use Rattle.std.proofs.lemmas.Bool.{both_ways}
 use Rattle.xc_base.proofs.Naming.{same_bytes, or_false_left, or_false_right}
 use Rattle.xc_expr.proofs.ActionTokens.{token_cons, mark_cons, reads_skip, reads_tokens}
-use Rattle.xc_expr.proofs.KnownActions.{both_is, map_is, both_true, both_false}
-use Rattle.xc_expr.proofs.KnownNames.{and_left, and_right}
+use Rattle.xc_expr.proofs.Choices.{and_left, and_right, both_is, map_is, both_true, both_false}
 use Rattle.xc_expr.specs.ActionReading.{is_set, assignment_in, assignments_in, is_mark, is_skip}
 use Rattle.xc_expr.specs.Laws.{ActionsAreRead, ActionsAreUnique}
 use Rattle.xc_expr.specs.Reading.{action_in}

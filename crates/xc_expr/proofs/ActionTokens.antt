@@ -13,12 +13,12 @@ use Rattle.xc_expr.specs.Reading.{action_in}
 use Rattle.xc_expr.specs.ActionReading.{assignment_in, assignments_in, is_mark, is_skip, is_mark_at, assignment_at, reads_from}
 use Rattle.xc_expr.specs.declared.setting.Setting.{Setting}
 
-pub texts_take : (n : ℕ) (xs : List Lexeme) → texts (take n xs) ≡ take n (texts xs)
+texts_take : (n : ℕ) (xs : List Lexeme) → texts (take n xs) ≡ take n (texts xs)
 texts_take zero xs = refl
 texts_take (suc n) [] = refl
 texts_take (suc n) (x ∷ xs) = ap (λ (ts : List (List ℕ)). x.text.now ∷ ts) (texts_take n xs)
 
-pub texts_drop : (n : ℕ) (xs : List Lexeme) → texts (drop n xs) ≡ drop n (texts xs)
+texts_drop : (n : ℕ) (xs : List Lexeme) → texts (drop n xs) ≡ drop n (texts xs)
 texts_drop zero xs = refl
 texts_drop (suc n) [] = refl
 texts_drop (suc n) (x ∷ xs) = texts_drop n xs
@@ -27,9 +27,13 @@ pub texts_length : (xs : List Lexeme) → length (texts xs) ≡ length xs
 texts_length [] = refl
 texts_length (x ∷ xs) = ap suc (texts_length xs)
 
+-- the tokens from one place up to another
+pub texts_between : (xs : List Lexeme) (start end : ℕ) → texts (take (end - start) (drop start xs)) ≡ take (end - start) (drop start (texts xs))
+texts_between xs start end = rw (texts_take (end - start) (drop start xs), texts_drop start xs) refl
+
 pub assignment_between : (xs : List Lexeme) (start end : ℕ) → assignment_in (texts (take (end - start) (drop start xs))) ≡ assignment_at (texts xs) start end
 unfolding assignment_at
-assignment_between xs start end = rw (texts_take (end - start) (drop start xs), texts_drop start xs) refl
+assignment_between xs start end = ap assignment_in (texts_between xs start end)
 
 -- fewer tokens than three, or more than four, are no assignment
 pub assignment_short : (xs : List Lexeme) → length xs < 3 → assignment_in (texts xs) ≡ None

@@ -1,47 +1,26 @@
 -- Actions with known names are in range.
-use Rattle.std.proofs.Common.{◌≡◌, ℕ, ◌&&◌, ◌||◌, not, ◌==◌, nat_lt, Bool, true, false, if◌then◌else◌, List, [], ◌∷◌, map, length, Option, Some, None, refl, sym, ◌∙◌, ap, subst}
+use Rattle.std.proofs.Common.{◌≡◌, ℕ, ◌&&◌, not, ◌==◌, nat_lt, true, false, if◌then◌else◌, List, [], ◌∷◌, map, length, Option, Some, None, refl, sym, ◌∙◌, ap, subst}
 use Rattle.std.specs.List.{list_all, list_any}
 use Rattle.std.specs.Option.{option_map}
 use Rattle.std.specs.Str.{bytes_eq}
 use Rattle.std.proofs.lemmas.Bool.{lt-ltb, eqb-true, both_ways}
 use Rattle.xc_base.specs.Names.{are_same, is_among, name_at}
 use Rattle.xc_base.proofs.Naming.{found_in_range, bytes_refl, or_false_left, or_false_right}
+use Rattle.xc_expr.proofs.Choices.{both_true, both_false, is_false, then_some_is, both_is, map_is, if_is}
 use Rattle.xc_expr.proofs.KnownNames.{variable_in_range, found_at}
 use Rattle.xc_expr.specs.Variables.{names_of, values_at}
 use Rattle.xc_expr.specs.Tests.{has_value, are_peers}
 use Rattle.xc_expr.specs.Actions.{assigned, assigns, assigns_twice, is_assign_in_range}
 use Rattle.xc_expr.specs.Written.{Assigned, To, Next, Prev, Any}
-use Rattle.xc_expr.specs.Resolving.{variable, value, peer, operand, or_peer, then_some, both, resolved_assignment, resolved_action, set_name, sets_twice}
+use Rattle.xc_expr.specs.Resolving.{variable, value, peer, operand, or_peer, resolved_assignment, resolved_action, set_name, sets_twice}
 use Rattle.xc_expr.specs.Laws.{KnownActionsAreInRange}
 use Rattle.xc_expr.specs.declared.assign.Assign.{Assign}
 use Rattle.xc_expr.specs.declared.assign.Assign.TheVariants as variants
 use Rattle.xc_expr.specs.declared.domain.Domain.{Domain}
 
--- what comes of what is found
-then_some_is : {X Y : Type 0} (o : Option X) (next : X → Option Y) (y : Y) → then_some o next ≡ Some y → (x : X) × (o ≡ Some x) × (next x ≡ Some y)
-then_some_is None next y e = cc
-then_some_is (Some x) next y e = (x, refl, e)
-
-pub both_is : {X Y Z : Type 0} (f : X → Y → Z) (o : Option X) (p : Option Y) (z : Z) → both f o p ≡ Some z → (x : X) × (y : Y) × (o ≡ Some x) × (p ≡ Some y) × (f x y ≡ z)
-both_is f None p z e = cc
-both_is f (Some x) None z e = cc
-both_is f (Some x) (Some y) z e = (x, y, refl, refl, cc)
-
-pub map_is : {X Y : Type 0} (f : X → Y) (o : Option X) (y : Y) → option_map f o ≡ Some y → (x : X) × (o ≡ Some x) × (f x ≡ y)
-map_is f None y e = cc
-map_is f (Some x) y e = (x, refl, cc)
-
-if_is : {X : Type 0} (b : Bool) (x y : X) → (if b then Some x else None) ≡ Some y → (x ≡ y) × (b ≡ true)
-if_is true x y e = (cc, refl)
-if_is false x y e = cc
-
 -- a variable, a value and a peer that are known are there
 there : (vars : List Domain) (name : List ℕ) (x : ℕ) → variable vars name ≡ Some x → nat_lt x (length vars) ≡ true
 there vars name x h = lt-ltb x (length vars) (variable_in_range vars name x h)
-
-pub both_true : (a b : Bool) → a ≡ true → b ≡ true → (a && b) ≡ true
-both_true true b h k = k
-both_true false b h k = h
 
 pub known_value : (vars : List Domain) (x : ℕ) (w : List ℕ) (v : ℕ) → nat_lt x (length vars) ≡ true → value vars x w ≡ Some v → has_value vars x v ≡ true
 known_value vars x w v h e = both_true (nat_lt x (length vars)) (nat_lt v (length (values_at vars x))) h (lt-ltb v (length (values_at vars x)) (found_in_range (values_at vars x) w v e))
@@ -108,14 +87,6 @@ same_name : (vars : List Domain) (n m : List ℕ) (x y : ℕ) → variable vars 
 same_name vars n m x y h k e =
     let same : n ≡ m = sym (found_at (names_of vars) n x h) ∙ ap (name_at (names_of vars)) (sym e) ∙ found_at (names_of vars) m y k in
     subst (λ (t : List ℕ). bytes_eq n t ≡ true) same (bytes_refl n)
-
-is_false : (b : Bool) → (b ≡ true → ⊥) → b ≡ false
-is_false true h = absurd (h refl)
-is_false false h = refl
-
-pub both_false : (a b : Bool) → a ≡ false → b ≡ false → (a || b) ≡ false
-both_false true b h k = h
-both_false false b h k = k
 
 -- a variable whose name is not set is not assigned
 not_assigned : (vars : List Domain) (n : List ℕ) (x : ℕ) (action : List Assigned) (bs : List Assign) → variable vars n ≡ Some x → resolved_action vars action ≡ Some bs → is_among (map set_name action) n ≡ false → list_any (assigns x) bs ≡ false

@@ -6,18 +6,11 @@ use Rattle.std.proofs.lemmas.Bool.{ltb-true}
 use Rattle.std.proofs.lemmas.List.Sums.{passes_at_first}
 use Rattle.xc_base.specs.Names.{are_same, name_at}
 use Rattle.xc_base.proofs.Naming.{same_bytes, found_in_range}
+use Rattle.xc_expr.proofs.Choices.{and_right}
 use Rattle.xc_expr.specs.Variables.{names_of}
 use Rattle.xc_expr.specs.Called.{is_called}
 use Rattle.xc_expr.specs.Resolving.{variable}
 use Rattle.xc_expr.specs.declared.domain.Domain.{Domain}
-
-pub and_left : (a b : Bool) → (a && b) ≡ true → a ≡ true
-and_left true b h = refl
-and_left false b h = h
-
-pub and_right : (a b : Bool) → (a && b) ≡ true → b ≡ true
-and_right true b h = h
-and_right false b h = cc
 
 -- where a name stands among the names of variables is where the variable stands
 place_of_variable : (vars : List Domain) (name : List ℕ) → position_or_len (bytes_eq name) (names_of vars) ≡ position_or_len (is_called name) vars

@@ -1,4 +1,4 @@
-ghost use Rattle.std.specs.Prelude.{◌≡◌, ◌<◌, true, length, find, slice_index};
+ghost use Rattle.std.specs.Prelude.{◌≡◌, ◌<◌, true, length, find};
 ghost use Rattle.xc_theory.specs.Codes.{total, digits, AreDigits};
 ghost use Rattle.xc_expr.specs.Variables.{are_fit, sizes_of};
 ghost use Rattle.xc_expr.specs.Actions.{assigned, assigns, gives, allows, is_assign_in_range, is_action_in_range};
@@ -6,7 +6,7 @@ ghost use Rattle.xc_expr.specs.Moving.{goes_at, goes_from};
 
 use crate::assign::{Action, Assign};
 use crate::domain::Vars;
-use crate::places::places_of;
+use crate::places::{places_of, size_of};
 
 /// The variable that is assigned.
 fn assigned(assign: &Assign) -> usize
@@ -31,16 +31,6 @@ fn assignment_of(action: &Action, var: usize) -> Option<Assign>
         .find(|assign| assigned(assign) == var)
 }
 
-/// How many values a variable has.
-fn size_of(vars: &Vars, var: u8) -> usize
-    requires fit { are_fit vars.now ≡ true }
-    requires range { var < length vars.now }
-    ensures is { result ≡ slice_index (sizes_of vars.now) var }
-    ensures some { 0 < result }
-{
-    vars.get(usize::from(var)).values.len()
-}
-
 /// Whether an assignment gives its variable that place.
 fn gives(assign: &Assign, vars: &Vars, row: &[u8], place: u8) -> bool
     requires fit { are_fit vars.now ≡ true }
@@ -52,10 +42,12 @@ fn gives(assign: &Assign, vars: &Vars, row: &[u8], place: u8) -> bool
         Assign::Value { value, .. } => place == value,
         Assign::Copy { from, .. } => place == row[usize::from(from)],
         Assign::Next { from, .. } => {
-            usize::from(place) == (usize::from(row[usize::from(from)]) + 1) % size_of(vars, from)
+            u32::from(place)
+                == (u32::from(row[usize::from(from)]) + 1) % size_of(vars, usize::from(from))
         }
         Assign::Prev { from, .. } => {
-            (usize::from(place) + 1) % size_of(vars, from) == usize::from(row[usize::from(from)])
+            (u32::from(place) + 1) % size_of(vars, usize::from(from))
+                == u32::from(row[usize::from(from)])
         }
         Assign::Any { .. } => true,
     }

@@ -42,4 +42,6 @@ pub use read::{read_action, read_guard};
 pub use setting::Setting;
 
 #[cfg(test)]
+mod action_tests;
+#[cfg(test)]
 mod tests;

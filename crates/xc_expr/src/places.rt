@@ -4,8 +4,8 @@ ghost use Rattle.xc_expr.specs.Variables.{are_fit, sizes_of};
 
 use crate::domain::Vars;
 
-/// How many values the variable at a place has.
-fn size_at(vars: &Vars, place: usize) -> u32
+/// How many values a variable has.
+pub(crate) fn size_of(vars: &Vars, place: usize) -> u32
     requires fit { are_fit vars.now ≡ true }
     requires range { place < length vars.now }
     ensures is { result ≡ slice_index (sizes_of vars.now) place }
@@ -25,7 +25,7 @@ pub fn places_of(vars: &Vars, state: u32) -> [u8; 20]
     let mut row = [0; 20];
     let mut rest = state;
     for place in (0..vars.len()).rev() {
-        let size = size_at(vars, place);
+        let size = size_of(vars, place);
         row[place] = (rest % size) as u8;
         rest /= size;
     }

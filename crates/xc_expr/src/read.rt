@@ -17,7 +17,7 @@ use xc_base::Lines;
 /// The guard that the tokens of a row from one place up to another are.
 ///
 /// It fails where they are no guard, where they name what there is not, and where there is no memory.
-#[tactic(auto, using(std::proofs::lemmas::Grind::common_steps, crate::proofs::ActionTokens::texts_length, crate::proofs::ActionOutcomes::texts_between))]
+#[tactic(auto, using(std::proofs::lemmas::Grind::common_steps, crate::proofs::ActionTokens::texts_length, crate::proofs::ActionTokens::texts_between))]
 pub fn read_guard(
     alloc: Global,
     lines: &Lines,
@@ -42,7 +42,7 @@ pub fn read_guard(
 ///
 /// It fails where they are no action, where they set a variable twice, where they name what there is not, and where
 /// there is no memory.
-#[tactic(auto, using(std::proofs::lemmas::Grind::common_steps, crate::proofs::ActionTokens::texts_length, crate::proofs::ActionOutcomes::texts_between))]
+#[tactic(auto, using(std::proofs::lemmas::Grind::common_steps, crate::proofs::ActionTokens::texts_length, crate::proofs::ActionTokens::texts_between))]
 pub fn read_action(
     alloc: Global,
     lines: &Lines,

@@ -1,7 +1,7 @@
 use Rattle.std.proofs.Common.{ℕ, ◌-◌, List, take, drop, IfErr, ◌∙◌, ap, subst}
 use Rattle.xc_base.specs.Lines.{texts}
 use Rattle.xc_expr.specs.Outcomes.{IsGuardFault}
-use Rattle.xc_expr.proofs.ActionOutcomes.{texts_between}
+use Rattle.xc_expr.proofs.ActionTokens.{texts_between}
 use Rattle.xc_expr.proofs.read.read_guard.Goals as goal
 
 pub returns-clause-err : goal.returns-clause-err
