@@ -3,6 +3,7 @@ pub mod Tests
 pub mod Actions
 pub mod Written
 pub mod Resolving
+pub mod ActionReading
 pub mod Reading
 pub mod Outcomes
 pub mod Laws
