@@ -1,9 +1,14 @@
 //! Viewpoint files: guarded commands and propositions, with values of a lattice that is named and not looked up.
 #![tactic(auto)]
 
+mod decide;
+mod draft;
+mod due;
 mod lines;
 mod reader;
+mod statement;
 mod view;
+mod words;
 
 pub use lines::{Command, PropLine};
 pub use reader::read;
