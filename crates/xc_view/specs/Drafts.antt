@@ -7,6 +7,7 @@ use Rattle.xc_base.specs.Names.{has_twice}
 use Rattle.xc_base.specs.Words.{is_name, is_file_word}
 use Rattle.xc_expr.specs.Variables.{names_of, sizes_of, is_domain, state_limit}
 use Rattle.xc_expr.specs.Resolving.{sets_twice}
+use Rattle.xc_expr.specs.declared.domain.Domain.{Domain}
 use Rattle.xc_view.specs.ViewFiles.{Statement, View, Lattice, Var, Init, Prop, Command, vars_of, is_view, is_lattice, is_prop, is_command, count_of, line_limit}
 use Rattle.xc_view.specs.Statements.{stated}
 use Rattle.xc_view.specs.declared.statement.Statement as code
@@ -36,13 +37,17 @@ command_names (Var name values ∷ more) = command_names more
 command_names (Init guard ∷ more) = command_names more
 command_names (Prop name value guard ∷ more) = command_names more
 
--- faultless statements of a file, some or all
+-- no variables, or fit ones: different names, each with 2 to 16 different values, and not too many states
+pub record AreSized (vars : List Domain) : Type 0 where
+  pub different : has_twice (names_of vars) ≡ false
+  pub domains : list_all is_domain vars ≡ true
+  pub states : total (sizes_of vars) ≤ state_limit
+
+-- what holds of faultless statements, one after another from the first on
 pub record IsFair (statements : List Statement) : Type 0 where
   pub starts : begins statements ≡ true
   pub named : list_all is_named statements ≡ true
-  pub different : has_twice (names_of (vars_of statements)) ≡ false
-  pub domains : list_all is_domain (vars_of statements) ≡ true
-  pub states : total (sizes_of (vars_of statements)) ≤ state_limit
+  pub sized : AreSized (vars_of statements)
   pub props : count_of is_prop statements ≤ line_limit
   pub commands : count_of is_command statements ≤ line_limit
   pub once : has_twice (command_names statements) ≡ false

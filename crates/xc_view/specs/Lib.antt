@@ -6,3 +6,4 @@ pub mod Deciding
 pub mod Laws
 pub mod Statements
 pub mod Drafts
+pub mod Drafted

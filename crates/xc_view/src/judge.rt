@@ -29,7 +29,8 @@ fn has_var(vars: &[Domain], name: &Word) -> bool
     vars.iter().any(|d| is_var_of(d, name))
 }
 
-fn has_init(statements: &[Statement]) -> bool
+/// Whether one of the statements says what the initial states are.
+pub(crate) fn has_init(statements: &[Statement]) -> bool
     ensures { result ≡ list_any (λ s. is_init (stated s)) statements.now }
 {
     statements.iter().any(|s| matches!(s, Statement::Init(_)))

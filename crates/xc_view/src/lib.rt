@@ -4,8 +4,11 @@
 mod decide;
 mod draft;
 mod due;
+mod judge;
+mod limits;
 mod lines;
 mod reader;
+mod rows;
 mod statement;
 mod view;
 mod words;

@@ -3,7 +3,7 @@ ghost use Rattle.std.specs.List.{list_all};
 ghost use Rattle.xc_theory.specs.Codes.{total};
 ghost use Rattle.xc_base.specs.Deciding.{excess_fault};
 ghost use Rattle.xc_expr.specs.Variables.{sizes_of, is_domain, state_limit};
-ghost use Rattle.xc_view.specs.ViewFiles.{is_prop, is_command, line_limit, line_excess, var_excess, excess_of};
+ghost use Rattle.xc_view.specs.ViewFiles.{is_prop, is_command, count_of, line_limit, line_excess, var_excess, excess_of};
 ghost use Rattle.xc_view.specs.Statements.{stated};
 ghost use Rattle.xc_view.specs.Drafts.{all_stated};
 
@@ -13,7 +13,7 @@ use xc_base::{Counted, FileFault};
 use xc_expr::Vars;
 
 /// How many states there are over some variables.
-#[tactic(auto, using(crate::proofs::Sizes::total_from))]
+#[tactic(auto, using(crate::proofs::Sizes::total_step, crate::proofs::Sizes::product_below))]
 fn state_count(vars: &Vars) -> u64
     requires domains { list_all is_domain vars.now ≡ true }
     requires few { total (sizes_of vars.now) ≤ state_limit }
@@ -50,7 +50,7 @@ fn var_fault(vars: &Vars, size: usize, line: u32) -> Option<FileFault>
     None
 }
 
-fn prop_count(statements: &[Statement]) -> usize
+fn prop_lines(statements: &[Statement]) -> usize
     ensures { result ≡ length (filter (λ s. is_prop (stated s)) statements.now) }
 {
     statements
@@ -59,13 +59,27 @@ fn prop_count(statements: &[Statement]) -> usize
         .count()
 }
 
-fn command_count(statements: &[Statement]) -> usize
+#[tactic(auto, using(crate::proofs::Stated::count_stated))]
+fn prop_count(draft: &Draft) -> usize
+    ensures { result ≡ count_of is_prop (all_stated draft.now.statements) }
+{
+    prop_lines(draft.statements.as_slice())
+}
+
+fn command_lines(statements: &[Statement]) -> usize
     ensures { result ≡ length (filter (λ s. is_command (stated s)) statements.now) }
 {
     statements
         .iter()
         .filter(|s| matches!(s, Statement::Command(..)))
         .count()
+}
+
+#[tactic(auto, using(crate::proofs::Stated::count_stated))]
+fn command_count(draft: &Draft) -> usize
+    ensures { result ≡ count_of is_command (all_stated draft.now.statements) }
+{
+    command_lines(draft.statements.as_slice())
 }
 
 fn line_fault(count: usize, what: Counted, line: u32) -> Option<FileFault>
@@ -83,15 +97,13 @@ fn line_fault(count: usize, what: Counted, line: u32) -> Option<FileFault>
 }
 
 /// The limit that a statement passes after those of a draft.
-#[tactic(auto, using(crate::proofs::Stated::count_stated))]
 pub(crate) fn limit_fault(draft: &Draft, s: &Statement, line: u32) -> Option<FileFault>
     ensures { result ≡ excess_fault line (excess_of (all_stated draft.now.statements) (stated s.now)) }
 {
-    let before = draft.statements.as_slice();
     match s {
         Statement::Var(domain) => var_fault(&draft.vars, domain.values.len(), line),
-        Statement::Prop(..) => line_fault(prop_count(before), Counted::Props, line),
-        Statement::Command(..) => line_fault(command_count(before), Counted::Commands, line),
+        Statement::Prop(..) => line_fault(prop_count(draft), Counted::Props, line),
+        Statement::Command(..) => line_fault(command_count(draft), Counted::Commands, line),
         _ => None,
     }
 }
