@@ -6,3 +6,5 @@ pub mod Fair
 pub mod Reading
 pub mod Expressions
 pub mod Deciding
+pub mod Gathering
+pub mod Sound

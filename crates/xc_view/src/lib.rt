@@ -4,6 +4,7 @@
 mod decide;
 mod draft;
 mod due;
+mod gather;
 mod judge;
 mod limits;
 mod lines;

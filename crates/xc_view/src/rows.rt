@@ -70,7 +70,7 @@ fn next_statement<'a>(
 }
 
 /// The statements of all rows, or the fault of the first row that has one.
-#[tactic(auto, using(crate::proofs::Reading::row_is_fair, crate::proofs::Reading::row_after, crate::proofs::Reading::stops_at, crate::proofs::Reading::rest_ends))]
+#[tactic(auto, using(crate::proofs::Reading::row_after, crate::proofs::Reading::stops_at, crate::proofs::Reading::rest_ends))]
 fn read_rows<'a>(alloc: Global, lines: &Lines<'a>) -> Result<Draft<'a>, Stop>
     ensures { GivesAs drafted result (statements_of view_format decide [] (rows_in lines.now)) }
 {
