@@ -8,3 +8,5 @@ pub mod Expressions
 pub mod Deciding
 pub mod Gathering
 pub mod Sound
+pub mod Gathered
+pub mod Verdicts

@@ -11,9 +11,11 @@ mod lines;
 mod reader;
 mod rows;
 mod statement;
+mod verdict;
 mod view;
 mod words;
 
 pub use lines::{Command, PropLine};
 pub use reader::read;
+pub use verdict::{ViewFiles, files_have_one_view};
 pub use view::View;
