@@ -2,6 +2,7 @@ pub mod CutLines
 pub mod CutTokens
 pub mod Loading
 pub mod Naming
+pub mod Operators
 pub mod Deciding
 pub mod Rows
 pub mod Within

@@ -105,4 +105,3 @@ some_below m n k false e h = cc
 
 pub found_in_range : (names : List (List ℕ)) (name : List ℕ) (k : ℕ) → position (bytes_eq name) names ≡ Some k → k < length names
 found_in_range names name k h = some_below (place_of names name) (length names) k (nat_lt (place_of names name) (length names)) refl h
-

@@ -4,6 +4,7 @@ pub mod Formats
 pub mod Judging
 pub mod Lines
 pub mod Names
+pub mod Operators
 pub mod Shelves
 pub mod Sinks
 pub mod Text

@@ -14,6 +14,7 @@ mod names;
 mod shelf;
 mod sink;
 mod stream_sink;
+mod token_front;
 mod word;
 
 pub use cut::cut_lines;
@@ -29,6 +30,7 @@ pub use names::{find_name, has_twice, is_among};
 pub use shelf::{File, LoadFault, Shelf};
 pub use sink::{Sink, SinkFault, put_all};
 pub use stream_sink::StreamSink;
+pub use token_front::behind;
 pub use word::{Word, is_name_text, is_word_text};
 
 #[cfg(test)]

@@ -1,9 +1,14 @@
 pub mod Variables
+pub mod Called
 pub mod Tests
 pub mod Actions
+pub mod Moving
 pub mod Written
 pub mod Resolving
+pub mod GuardReading
+pub mod KnownSettings
 pub mod ActionReading
 pub mod Reading
+pub mod ActionOutcomes
 pub mod Outcomes
 pub mod Laws

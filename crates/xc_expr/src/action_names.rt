@@ -1,17 +1,69 @@
-ghost use Rattle.std.specs.Prelude.{◌≡◌, true, false, map, IfOk, IfSome};
+ghost use Rattle.std.specs.Prelude.{◌≡◌, ◌<◌, true, false, [], map, length, IfOk, IfSome};
 ghost use Rattle.xc_expr.specs.Variables.{are_fit};
 ghost use Rattle.xc_expr.specs.Actions.{is_action_in_range};
 ghost use Rattle.xc_expr.specs.Written.{set};
-ghost use Rattle.xc_expr.specs.Resolving.{resolved_action, sets_twice};
-ghost use Rattle.xc_expr.specs.ActionReading.{name_set, is_set_in, repeats_first, repeats};
+ghost use Rattle.xc_expr.specs.Resolving.{operand, resolved_action, sets_twice};
+ghost use Rattle.xc_expr.specs.KnownSettings.{name_set, is_set_in, repeats_first, repeats, resolved_setting, resolves};
 
-use crate::assign::Action;
+use crate::assign::{Action, Assign};
 use crate::domain::Vars;
+use crate::operands::{peer, value, variable};
 use crate::setting::Setting;
 use std::alloc::Global;
-use xc_base::Memory;
+use xc_base::{List, Memory};
+
+fn value_or_copy(vars: &Vars, var: u8, name: &[u8]) -> Option<Assign>
+    requires fit { are_fit vars.now ≡ true }
+    requires range { var < length vars.now }
+    ensures { result ≡ operand vars.now var name.now (Assign.Value var) (Assign.Copy var) }
+{
+    match value(vars, var, name) {
+        Some(value) => Some(Assign::Value { var, value }),
+        None => peer(vars, var, name).map(|from| Assign::Copy { var, from }),
+    }
+}
+
+/// The assignment that a setting is, where its names are known.
+#[tactic(auto, unfolding(crate::specs::KnownSettings::resolved_setting))]
+fn resolve_setting(setting: &Setting, vars: &Vars) -> Option<Assign>
+    requires { are_fit vars.now ≡ true }
+    ensures { result ≡ resolved_setting vars.now setting.now }
+{
+    match *setting {
+        Setting::To(name, right) => value_or_copy(vars, variable(vars, name)?, right),
+        Setting::Next(name, right) => {
+            let var = variable(vars, name)?;
+            let from = peer(vars, var, right)?;
+            Some(Assign::Next { var, from })
+        }
+        Setting::Prev(name, right) => {
+            let var = variable(vars, name)?;
+            let from = peer(vars, var, right)?;
+            Some(Assign::Prev { var, from })
+        }
+        Setting::Any(name) => Some(Assign::Any {
+            var: variable(vars, name)?,
+        }),
+    }
+}
+
+#[tactic(auto, using(std::proofs::lemmas::Grind::common_steps, crate::proofs::Settings::resolves_known, crate::proofs::Settings::resolves_unknown, crate::proofs::Settings::resolves_none))]
+fn resolve(alloc: Global, settings: &[Setting], vars: &Vars) -> Result<Option<Action>, Memory>
+    requires { are_fit vars.now ≡ true }
+    ensures { IfOk result (λ action. action ≡ resolves vars.now [] settings.now) }
+{
+    let mut action = List::new(alloc);
+    for place in 0..settings.len() {
+        match resolve_setting(&settings[place], vars) {
+            Some(assign) => action.push(assign)?,
+            None => return Ok(None),
+        }
+    }
+    Ok(Some(action))
+}
 
 /// The action with places in place of names, where the names are known.
+#[tactic(auto, using(std::proofs::lemmas::Grind::common_steps, crate::proofs::Settings::resolves_is, crate::proofs::KnownActions::known_action_in_range))]
 pub fn resolve_action(
     alloc: Global,
     settings: &[Setting],
@@ -21,12 +73,11 @@ pub fn resolve_action(
     ensures known { IfOk result (λ action. action ≡ resolved_action vars.now (map set settings.now)) }
     ensures range { sets_twice (map set settings.now) ≡ false → IfOk result (λ action. IfSome action (λ a. is_action_in_range vars.now a ≡ true)) }
 {
-    let _alloc = alloc;
-    Err(Memory)
+    resolve(alloc, settings, vars)
 }
 
 /// The name of the variable that is set.
-#[tactic(auto, unfolding(crate::specs::ActionReading::name_set))]
+#[tactic(auto, unfolding(crate::specs::KnownSettings::name_set))]
 fn name_of<'a>(setting: &Setting<'a>) -> &'a [u8]
     ensures { result.now ≡ name_set setting.now }
 {
@@ -39,7 +90,7 @@ fn name_of<'a>(setting: &Setting<'a>) -> &'a [u8]
 }
 
 /// Whether one of the settings sets that variable.
-#[tactic(auto, unfolding(crate::specs::ActionReading::is_set_in))]
+#[tactic(auto, unfolding(crate::specs::KnownSettings::is_set_in))]
 fn is_set(settings: &[Setting], name: &[u8]) -> bool
     ensures { result ≡ is_set_in name.now settings.now }
 {
@@ -47,7 +98,7 @@ fn is_set(settings: &[Setting], name: &[u8]) -> bool
 }
 
 /// Whether the variable that the first of the settings sets is set again.
-#[tactic(auto, unfolding(crate::specs::ActionReading::repeats_first))]
+#[tactic(auto, unfolding(crate::specs::KnownSettings::repeats_first))]
 fn repeats_first(settings: &[Setting]) -> bool
     ensures { result ≡ repeats_first settings.now }
 {
@@ -70,7 +121,7 @@ fn repeats(settings: &[Setting]) -> bool
 }
 
 /// Whether a variable is set twice.
-#[tactic(auto, unfolding(crate::specs::ActionReading::repeats))]
+#[tactic(auto, unfolding(crate::specs::KnownSettings::repeats))]
 pub fn sets_twice(settings: &[Setting]) -> bool
     ensures { result ≡ sets_twice (map set settings.now) }
 {

@@ -1,26 +1,43 @@
 //! Guards and actions over variables: how they are written, and what they say of states.
 #![tactic(auto)]
 
+mod action_laws;
 mod action_names;
 mod action_parser;
+mod action_reader;
+mod action_test;
 mod assign;
 mod domain;
 mod fault;
 mod guard;
 mod guard_names;
 mod guard_parser;
+mod guard_reader;
+mod guard_test;
+mod laws;
+mod operands;
 mod phrase;
+mod places;
 mod read;
 mod setting;
+mod words;
 
+pub use action_laws::actions_are_read;
 pub use action_names::{resolve_action, sets_twice};
 pub use action_parser::parse_action;
+pub use action_test::{moves, moves_in};
 pub use assign::{Action, Assign};
 pub use domain::{Domain, Vars};
 pub use fault::ExprFault;
 pub use guard::Guard;
 pub use guard_names::resolve_guard;
 pub use guard_parser::parse_guard;
+pub use guard_test::{holds, holds_in};
+pub use laws::guards_are_read;
 pub use phrase::Phrase;
+pub use places::places_of;
 pub use read::{read_action, read_guard};
 pub use setting::Setting;
+
+#[cfg(test)]
+mod tests;
