@@ -1,8 +1,11 @@
 -- How trees with an operator between their parts are read: as long as an operator stands behind what is read, it goes on.
-use Rattle.std.proofs.Common.{◌≡◌, ℕ, zero, suc, ◌<◌, ◌≤◌, Bool, true, false, cond, List, [], ◌∷◌, ◌++◌, length, length-append, append_assoc, Option, Some, None, refl, sym, ◌∙◌, subst, ap, arith}
+use Rattle.std.proofs.Common.{◌≡◌, ℕ, zero, suc, ◌<◌, ◌≤◌, List, [], ◌∷◌, ◌++◌, length, length-append, append_assoc, Option, Some, None, refl, sym, ◌∙◌, subst, ap, arith}
 use Rattle.std.specs.Option.{option_and_then}
 use Rattle.std.specs.Str.{bytes_eq}
 use Rattle.std.proofs.lemmas.Option.{none-some, same_Some, cond_some}
+use Rattle.std.proofs.lemmas.List.{length-map}
+use Rattle.xc_base.specs.Lines.{texts}
+use Rattle.xc_base.specs.declared.lines.Lexeme.{Lexeme}
 use Rattle.xc_base.specs.Operators.{Front, behind, chain_step, chain_up_to, chain, chained, Shortens, Begins, IsSound}
 use Rattle.xc_base.proofs.Naming.{same_bytes, bytes_refl}
 
@@ -15,13 +18,15 @@ behind_cut mark (token ∷ tokens) more h =
     let f = p.1 in
     cc
 
+-- a token stands in front of what is behind it
 pub behind_mark : (mark : List ℕ) (tokens : List (List ℕ)) → behind mark (mark ∷ tokens) ≡ Some tokens
 behind_mark mark tokens = rw (bytes_refl mark)
 
+-- what stands behind is shorter
 behind_shorter : (mark : List ℕ) (tokens more : List (List ℕ)) → behind mark tokens ≡ Some more → length more < length tokens
 behind_shorter mark tokens more h = let e = ap length (behind_cut mark tokens more h) in omega arith
 
--- where no operator stands behind, more steps change nothing
+-- how a chain is read on
 module _ {T : Type 0} (mark : List ℕ) (join : T → T → T) (part : List (List ℕ) → Option (Front T)) where
   -- two bounds on the steps that are both large enough give the same, by what stands behind and what the part is
   same_step : (go other : T → List (List ℕ) → Option (Front T)) (left : T) (tokens : List (List ℕ)) (more : Option (List (List ℕ)))
@@ -34,6 +39,7 @@ module _ {T : Type 0} (mark : List ℕ) (join : T → T → T) (part : List (Lis
       by_part None e = refl
       by_part (Some f) e = same rest f refl e
 
+  -- more turns than tokens change nothing
   same_chain : Shortens part → (n m : ℕ) (left : T) (tokens : List (List ℕ)) → length tokens ≤ n → length tokens ≤ m → chain_up_to mark join part n left tokens ≡ chain_up_to mark join part m left tokens
   unfolding chain_up_to
   same_chain s zero zero left tokens h k = refl
@@ -69,11 +75,12 @@ module _ {T : Type 0} (mark : List ℕ) (join : T → T → T) (part : List (Lis
       let b = s.shorter more f k in
       rw (h, k) (same_chain s (length tokens) (length f.rest) (join left f.tree) f.rest (omega arith) (omega arith))
 
-  -- a chain begins with a part, and is none where that is none
+  -- a chain begins with a part
   pub chained_begins : (tokens : List (List ℕ)) (f : Front T) → part tokens ≡ Some f → chained mark join part tokens ≡ chain mark join part f.tree f.rest
   unfolding chained
   chained_begins tokens f h = rw h
 
+  -- tokens that begin with no part are no chain
   pub chained_fails : (tokens : List (List ℕ)) → part tokens ≡ None → chained mark join part tokens ≡ None
   unfolding chained
   chained_fails tokens h = rw h
@@ -95,10 +102,11 @@ sound_shortens Spelled reader s = record {
 module _ {T : Type 0} (mark : List ℕ) (join : T → T → T) (part : List (List ℕ) → Option (Front T)) (Part Chain : List (List ℕ) → T → Type 0)
     (more_parts : (left right : List (List ℕ)) (a b : T) → Chain left a → Part right b → Chain (left ++ mark ∷ right) (join a b))
     (sound : IsSound Part part) where
+  -- no operator stands behind
   sound_end : (front : List (List ℕ)) (left : T) (tokens : List (List ℕ)) (f : Front T) → Chain front left → Some (record { tree = left; rest = tokens }) ≡ Some f → Begins Chain (front ++ tokens) f
   sound_end front left tokens f c h = subst (λ (g : Front T). Begins Chain (front ++ tokens) g) (same_Some _ _ h) (record { front = front; cut = refl; spelled = c })
 
-  -- one step, by what stands behind and what the part is
+  -- an operator stands behind, by what the part is
   sound_by_part : (go : T → List (List ℕ) → Option (Front T))
       → ((front : List (List ℕ)) (left : T) (tokens : List (List ℕ)) (f : Front T) → Chain front left → go left tokens ≡ Some f → Begins Chain (front ++ tokens) f)
       → (front : List (List ℕ)) (left : T) (tokens rest : List (List ℕ)) (f : Front T) → Chain front left → tokens ≡ mark ∷ rest
@@ -110,6 +118,7 @@ module _ {T : Type 0} (mark : List ℕ) (join : T → T → T) (part : List (Lis
       let same : (front ++ mark ∷ b.front) ++ g.rest ≡ front ++ tokens = append_assoc front (mark ∷ b.front) g.rest ∙ ap (λ more. front ++ mark ∷ more) (sym b.cut) ∙ ap (λ more. front ++ more) (sym cut) in
       subst (λ (all : List (List ℕ)). Begins Chain all f) same after
 
+  -- one turn, by what stands behind
   sound_step : (go : T → List (List ℕ) → Option (Front T))
       → ((front : List (List ℕ)) (left : T) (tokens : List (List ℕ)) (f : Front T) → Chain front left → go left tokens ≡ Some f → Begins Chain (front ++ tokens) f)
       → (front : List (List ℕ)) (left : T) (tokens : List (List ℕ)) (f : Front T) → Chain front left
@@ -117,11 +126,13 @@ module _ {T : Type 0} (mark : List ℕ) (join : T → T → T) (part : List (Lis
   sound_step go next front left tokens f c None e h = sound_end front left tokens f c h
   sound_step go next front left tokens f c (Some rest) e h = sound_by_part go next front left tokens rest f c (behind_cut mark tokens rest e) (part rest) refl h
 
+  -- what a chain reads behind tokens that are spelled as a chain
   chain_sound : (n : ℕ) (front : List (List ℕ)) (left : T) (tokens : List (List ℕ)) (f : Front T) → Chain front left → chain_up_to mark join part n left tokens ≡ Some f → Begins Chain (front ++ tokens) f
   unfolding chain_up_to
   chain_sound zero front left tokens f c h = sound_end front left tokens f c h
   chain_sound (suc n) front left tokens f c h = sound_step (chain_up_to mark join part n) (chain_sound n) front left tokens f c (behind mark tokens) refl h
 
+  -- what is read as a chain is spelled as one
   pub chained_sound : ((tokens : List (List ℕ)) (a : T) → Part tokens a → Chain tokens a) → IsSound Chain (chained mark join part)
   unfolding chained chain
   chained_sound one = record { begins = λ tokens f h. by_part tokens f (part tokens) refl h }
@@ -131,3 +142,11 @@ module _ {T : Type 0} (mark : List ℕ) (join : T → T → T) (part : List (Lis
       by_part tokens f (Some g) e h =
           let b = sound.begins tokens g e in
           subst (λ (all : List (List ℕ)). Begins Chain all f) (sym b.cut) (chain_sound (length g.rest) b.front g.tree g.rest f (one b.front g.tree b.spelled) h)
+
+-- After each turn of a loop over lexemes, one operator and one part, less is left.
+pub turn_shorter : {T : Type 0} (mark : List ℕ) (part : List (List ℕ) → Option (Front T)) → Shortens part → (tokens more rest : List Lexeme) (tree : T)
+    → behind mark (texts tokens) ≡ Some (texts more) → part (texts more) ≡ Some (record { tree = tree; rest = texts rest }) → length rest < length tokens
+turn_shorter mark part s tokens more rest tree h k =
+    let a : length (texts more) < length (texts tokens) = behind_shorter mark (texts tokens) (texts more) h in
+    let b : length (texts rest) ≤ length (texts more) = s.shorter (texts more) (record { tree = tree; rest = texts rest }) k in
+    omega (arith, length-map tokens (λ (x : Lexeme). x.text.now), length-map rest (λ (x : Lexeme). x.text.now))

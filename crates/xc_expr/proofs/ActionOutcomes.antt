@@ -5,8 +5,8 @@ use Rattle.xc_base.specs.Lines.{texts}
 use Rattle.xc_base.specs.declared.lines.Lexeme.{Lexeme}
 use Rattle.xc_expr.proofs.ActionSpelling.{action_sound, action_complete}
 use Rattle.xc_expr.proofs.ActionTokens.{texts_take, texts_drop}
-use Rattle.xc_expr.specs.ActionOutcomes.{AreKnown, IsUnknown, IsNameFault}
-use Rattle.xc_expr.specs.Outcomes.{AreAssigns, IsRepeatedAction, IsUnknownAction, IsActionFault}
+use Rattle.xc_expr.specs.ActionOutcomes.{AreKnown, IsNameFault}
+use Rattle.xc_expr.specs.Outcomes.{AreAssigns, IsActionFault}
 use Rattle.xc_expr.specs.Reading.{action_in}
 use Rattle.xc_expr.specs.Written.{Assigned, IsAction, set}
 use Rattle.xc_expr.specs.declared.domain.Domain.{Domain}

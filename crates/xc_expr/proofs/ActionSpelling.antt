@@ -1,5 +1,5 @@
 -- Tokens are the action that is read from them, and no other.
-use Rattle.std.proofs.Common.{◌≡◌, ℕ, Bool, true, false, ◌&&◌, ◌||◌, not, if◌then◌else◌, List, [], ◌∷◌, ◌++◌, codes, append_assoc, append-nil, Option, Some, None, refl, sym, ◌∙◌, ap, subst}
+use Rattle.std.proofs.Common.{◌≡◌, ℕ, Bool, true, false, ◌&&◌, ◌||◌, if◌then◌else◌, List, [], ◌∷◌, ◌++◌, codes, append_assoc, append-nil, Some, None, refl, sym, ◌∙◌, ap, subst}
 use Rattle.std.specs.List.{list_all, list_any}
 use Rattle.std.specs.Option.{option_map}
 use Rattle.std.specs.Str.{bytes_eq}
@@ -8,7 +8,7 @@ use Rattle.xc_base.proofs.Naming.{same_bytes, or_false_left, or_false_right}
 use Rattle.xc_expr.proofs.ActionTokens.{token_cons, mark_cons, reads_skip, reads_tokens}
 use Rattle.xc_expr.proofs.KnownActions.{both_is, map_is, both_true, both_false}
 use Rattle.xc_expr.proofs.KnownNames.{and_left, and_right}
-use Rattle.xc_expr.specs.ActionReading.{is_set, set_to_word, set_by_step, assignment_in, assignments_in, is_mark, is_skip}
+use Rattle.xc_expr.specs.ActionReading.{is_set, assignment_in, assignments_in, is_mark, is_skip}
 use Rattle.xc_expr.specs.Laws.{ActionsAreRead, ActionsAreUnique}
 use Rattle.xc_expr.specs.Reading.{action_in}
 use Rattle.xc_expr.specs.Resolving.{both}

@@ -1,15 +1,15 @@
 -- Actions with known names are in range.
-use Rattle.std.proofs.Common.{◌≡◌, ℕ, ◌<◌, ◌&&◌, ◌||◌, not, ◌==◌, nat_lt, Bool, true, false, if◌then◌else◌, List, [], ◌∷◌, map, length, Option, Some, None, refl, sym, ◌∙◌, ap, subst, arith, rules}
-use Rattle.std.specs.List.{list_all, list_any, position}
+use Rattle.std.proofs.Common.{◌≡◌, ℕ, ◌&&◌, ◌||◌, not, ◌==◌, nat_lt, Bool, true, false, if◌then◌else◌, List, [], ◌∷◌, map, length, Option, Some, None, refl, sym, ◌∙◌, ap, subst}
+use Rattle.std.specs.List.{list_all, list_any}
 use Rattle.std.specs.Option.{option_map}
 use Rattle.std.specs.Str.{bytes_eq}
 use Rattle.std.proofs.lemmas.Bool.{lt-ltb, eqb-true, both_ways}
 use Rattle.xc_base.specs.Names.{are_same, is_among, name_at}
 use Rattle.xc_base.proofs.Naming.{found_in_range, bytes_refl, or_false_left, or_false_right}
-use Rattle.xc_expr.proofs.KnownNames.{and_left, and_right, variable_in_range, found_at}
-use Rattle.xc_expr.specs.Variables.{are_fit, names_of, values_at}
+use Rattle.xc_expr.proofs.KnownNames.{variable_in_range, found_at}
+use Rattle.xc_expr.specs.Variables.{names_of, values_at}
 use Rattle.xc_expr.specs.Tests.{has_value, are_peers}
-use Rattle.xc_expr.specs.Actions.{assigned, assigns, assigns_twice, is_assign_in_range, is_action_in_range}
+use Rattle.xc_expr.specs.Actions.{assigned, assigns, assigns_twice, is_assign_in_range}
 use Rattle.xc_expr.specs.Written.{Assigned, To, Next, Prev, Any}
 use Rattle.xc_expr.specs.Resolving.{variable, value, peer, operand, or_peer, then_some, both, resolved_assignment, resolved_action, set_name, sets_twice}
 use Rattle.xc_expr.specs.Laws.{KnownActionsAreInRange}

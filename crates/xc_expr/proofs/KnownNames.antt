@@ -1,14 +1,14 @@
 -- Names that stand for variables and for values.
-use Rattle.std.proofs.Common.{◌≡◌, ℕ, suc, ◌+◌, ◌<◌, ◌≤◌, ◌&&◌, Bool, true, false, cond, not, nat_lt, List, [], ◌∷◌, map, length, drop, drop-cons, get_or, add-one, Option, Some, None, refl, sym, ◌∙◌, ap, arith}
+use Rattle.std.proofs.Common.{◌≡◌, ℕ, suc, ◌+◌, ◌<◌, ◌&&◌, Bool, true, false, cond, not, nat_lt, List, [], ◌∷◌, length, drop, drop-cons, get_or, add-one, Some, None, refl, sym, ◌∙◌, ap, arith}
 use Rattle.std.specs.List.{position, position_or_len}
 use Rattle.std.specs.Str.{bytes_eq}
-use Rattle.std.proofs.lemmas.Bool.{ltb-false, ltb-true, both_ways}
+use Rattle.std.proofs.lemmas.Bool.{ltb-true}
 use Rattle.std.proofs.lemmas.List.Sums.{passes_at_first}
 use Rattle.xc_base.specs.Names.{are_same, name_at}
 use Rattle.xc_base.proofs.Naming.{same_bytes, found_in_range}
-use Rattle.xc_expr.specs.Variables.{names_of, values_at}
+use Rattle.xc_expr.specs.Variables.{names_of}
 use Rattle.xc_expr.specs.Called.{is_called}
-use Rattle.xc_expr.specs.Resolving.{variable, value, peer}
+use Rattle.xc_expr.specs.Resolving.{variable}
 use Rattle.xc_expr.specs.declared.domain.Domain.{Domain}
 
 pub and_left : (a b : Bool) → (a && b) ≡ true → a ≡ true

@@ -1,5 +1,5 @@
 -- Where an action goes, as a loop asks one variable after the other.
-use Rattle.std.proofs.Common.{◌≡◌, ℕ, suc, ◌+◌, ◌-◌, ◌<◌, ◌≤◌, ◌&&◌, not, Bool, true, false, cond, List, [], ◌∷◌, length, Option, Some, None, refl, sym, ◌∙◌, ap, arith}
+use Rattle.std.proofs.Common.{◌≡◌, ℕ, suc, ◌+◌, ◌-◌, ◌<◌, ◌≤◌, ◌&&◌, not, Bool, true, false, cond, List, [], ◌∷◌, length, Option, Some, refl, sym, ap, arith}
 use Rattle.std.specs.List.{list_all, range_with_len, find}
 use Rattle.xc_theory.specs.Codes.{AreDigits}
 use Rattle.xc_expr.specs.Actions.{assigns, may_go, allows, assigns_twice, is_assign_in_range, is_action_in_range}

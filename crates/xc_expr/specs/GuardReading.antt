@@ -12,8 +12,8 @@ comparison x [] = None
 comparison x (sign ∷ []) = None
 comparison x (sign ∷ w ∷ rest) =
     if is_value_name w then
-      (if bytes_eq sign (codes "=") then Some (record { tree = Equal x w; rest = rest }) else
-       if bytes_eq sign (codes "!=") then Some (record { tree = Unequal x w; rest = rest }) else None)
+    (if bytes_eq sign (codes "=") then Some (record { tree = Equal x w; rest = rest }) else
+    if bytes_eq sign (codes "!=") then Some (record { tree = Unequal x w; rest = rest }) else None)
     else None
 
 -- `true` or `false`
@@ -35,14 +35,16 @@ negation front = option_map (λ f. record { tree = Not f.tree; rest = f.rest }) 
 abbrev pub closed : Option (Front Written) → Option (Front Written)
 closed front = option_and_then (λ f. option_map (λ more. record { tree = f.tree; rest = more }) (behind (codes ")") f.rest)) front
 
+-- the first of two that is there
 abbrev pub or_else : {X : Type 0} → Option X → Option X → Option X
 or_else None other = other
 or_else (Some x) other = Some x
 
--- parts with `&` between them, and those with `|` between them
+-- parts with `&` between them
 abbrev pub products : (List (List ℕ) → Option (Front Written)) → List (List ℕ) → Option (Front Written)
 products part tokens = chained (codes "&") And part tokens
 
+-- products with `|` between them
 abbrev pub sums : (List (List ℕ) → Option (Front Written)) → List (List ℕ) → Option (Front Written)
 sums part tokens = chained (codes "|") Or (products part) tokens
 
@@ -62,9 +64,11 @@ unfoldable pub nested : ℕ → List (List ℕ) → Option (Front Written)
 nested zero tokens = None
 nested (suc d) tokens = nested_by (basic d) (behind (codes "!") tokens) (behind (codes "(") tokens)
 
+-- basic guards with `&` between them
 unfoldable pub product : ℕ → List (List ℕ) → Option (Front Written)
 product d tokens = products (basic d) tokens
 
+-- products with `|` between them, at that depth
 unfoldable pub sum : ℕ → List (List ℕ) → Option (Front Written)
 sum d tokens = sums (basic d) tokens
 

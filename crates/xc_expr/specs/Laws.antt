@@ -1,5 +1,5 @@
 -- What follows from the definitions, as statements that public functions carry.
-use Rattle.std.specs.Prelude.{◌≡◌, ◌↔◌, ℕ, true, false, List, Option, Some}
+use Rattle.std.specs.Prelude.{◌≡◌, ◌↔◌, ℕ, true, false, List, Some}
 use Rattle.xc_expr.specs.Variables.{are_fit}
 use Rattle.xc_expr.specs.Tests.{Test, is_in_range}
 use Rattle.xc_expr.specs.Actions.{is_action_in_range}

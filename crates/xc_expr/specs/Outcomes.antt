@@ -1,5 +1,5 @@
 -- What comes of the tokens of a guard, and of an action.
-use Rattle.std.specs.Prelude.{◌≡◌, ◌-◌, ℕ, true, false, List, take, drop, Option, Some, None}
+use Rattle.std.specs.Prelude.{◌≡◌, ◌-◌, ℕ, true, false, List, take, drop, Some, None}
 use Rattle.xc_base.specs.Lines.{rows_in, row_at}
 use Rattle.xc_base.specs.declared.lines.Lines.{Lines}
 use Rattle.xc_expr.specs.Tests.{Test}

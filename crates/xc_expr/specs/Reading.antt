@@ -1,5 +1,5 @@
 -- Which guard, and which action, tokens are: functions that decide it.
-use Rattle.std.specs.Prelude.{ℕ, if◌then◌else◌, List, [], Option, Some, None}
+use Rattle.std.specs.Prelude.{ℕ, if◌then◌else◌, List, [], Option, Some}
 use Rattle.xc_base.specs.Operators.{whole}
 use Rattle.xc_expr.specs.ActionReading.{is_skip, assignments_in}
 use Rattle.xc_expr.specs.GuardReading.{sum}

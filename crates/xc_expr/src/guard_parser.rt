@@ -71,19 +71,13 @@ fn atom<'t, 'a>(tokens: &'t [Lexeme<'a>]) -> Option<Parsed<'t, 'a>>
 fn and<'a>(alloc: Global, left: Phrase<'a>, right: Phrase<'a>) -> Result<Phrase<'a>, Memory>
     ensures { IfOk result (λ phrase. written phrase ≡ And (written left.entry) (written right.entry)) }
 {
-    Ok(Phrase::And(
-        Box::new(alloc, left)?,
-        Box::new(alloc, right)?,
-    ))
+    Ok(Phrase::And(Box::new(alloc, left)?, Box::new(alloc, right)?))
 }
 
 fn or<'a>(alloc: Global, left: Phrase<'a>, right: Phrase<'a>) -> Result<Phrase<'a>, Memory>
     ensures { IfOk result (λ phrase. written phrase ≡ Or (written left.entry) (written right.entry)) }
 {
-    Ok(Phrase::Or(
-        Box::new(alloc, left)?,
-        Box::new(alloc, right)?,
-    ))
+    Ok(Phrase::Or(Box::new(alloc, left)?, Box::new(alloc, right)?))
 }
 
 fn negated<'t, 'a>(
