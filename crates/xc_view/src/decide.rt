@@ -10,10 +10,9 @@ ghost use Rattle.xc_view.specs.Deciding.{command_parts, command_line, word_line,
 ghost use Rattle.xc_view.specs.Statements.{stated};
 
 use crate::statement::Statement;
-use crate::words::{is_value_name, is_variable_name};
 use std::alloc::Global;
 use xc_base::{Lexeme, List, Memory, Word, is_name_text, is_word_text};
-use xc_expr::{Domain, parse_action, parse_guard};
+use xc_expr::{Domain, is_value_name, is_variable_name, parse_action, parse_guard};
 
 fn view_line<'a>(
     alloc: Global,

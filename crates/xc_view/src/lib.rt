@@ -13,7 +13,6 @@ mod rows;
 mod statement;
 mod verdict;
 mod view;
-mod words;
 
 pub use lines::{Command, PropLine};
 pub use reader::read;
