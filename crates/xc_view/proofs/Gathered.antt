@@ -36,16 +36,16 @@ module _ (d : Draft) (slice : List code.Statement) (whole : missing_part (all_st
       (name lattice : List ℕ) (init : Test) (props : List PropValue) (commands : List CommandValue)
       (name_is : name ≡ first_name (stated first ∷ [])) (lattice_is : lattice ≡ first_lattice (stated second ∷ []))
       (init_is : init ≡ first_init d.vars (all_stated slice)) (props_are : props ≡ props_of d.vars (all_stated slice)) (commands_are : commands ≡ commands_of d.vars (all_stated slice))
-      where
-    pub gathered : ViewOf (all_stated d.statements) (record { name = name; lattice = lattice; vars = d.vars; init = init; props = props; commands = commands })
-    gathered =
-        let own = subst (λ (ss : List code.Statement). d.vars ≡ vars_of (all_stated ss)) (sym same) d.same in
-        subst (λ (ss : List code.Statement). ViewOf (all_stated ss) (record { name = name; lattice = lattice; vars = d.vars; init = init; props = props; commands = commands })) same
-        (view_is (all_stated slice) name lattice d.vars init props commands
-        (name_is ∙ sym (first_is_view slice first two starts first_at).1)
-        (lattice_is ∙ sym (second_is_lattice slice second two starts second_at).1)
-        own init_is props_are commands_are)
+    where
+      pub gathered : ViewOf (all_stated d.statements) (record { name = name; lattice = lattice; vars = d.vars; init = init; props = props; commands = commands })
+      gathered =
+          let own = subst (λ (ss : List code.Statement). d.vars ≡ vars_of (all_stated ss)) (sym same) d.same in
+          subst (λ (ss : List code.Statement). ViewOf (all_stated ss) (record { name = name; lattice = lattice; vars = d.vars; init = init; props = props; commands = commands })) same
+          (view_is (all_stated slice) name lattice d.vars init props commands
+          (name_is ∙ sym (first_is_view slice first two starts first_at).1)
+          (lattice_is ∙ sym (second_is_lattice slice second two starts second_at).1)
+          own init_is props_are commands_are)
 
-    pub gathered_sound : is_sound (record { name = name; lattice = lattice; vars = d.vars; init = init; props = props; commands = commands }) ≡ true
-    gathered_sound =
-        subst (λ (v : ViewValue). is_sound v ≡ true) (sym gathered) (view_is_sound (all_stated d.statements) d.fair whole)
+      pub gathered_sound : is_sound (record { name = name; lattice = lattice; vars = d.vars; init = init; props = props; commands = commands }) ≡ true
+      gathered_sound =
+          subst (λ (v : ViewValue). is_sound v ≡ true) (sym gathered) (view_is_sound (all_stated d.statements) d.fair whole)

@@ -14,10 +14,7 @@ use std::alloc::Global;
 use xc_base::{Lexeme, List, Memory, Word, is_name_text, is_word_text};
 use xc_expr::{Domain, is_value_name, is_variable_name, parse_action, parse_guard};
 
-fn view_line<'a>(
-    alloc: Global,
-    tokens: &[Lexeme<'a>],
-) -> Result<Option<Statement<'a>>, Memory>
+fn view_line<'a>(alloc: Global, tokens: &[Lexeme<'a>]) -> Result<Option<Statement<'a>>, Memory>
     ensures { IfOk result (λ s. option_map stated s ≡ view_line (texts tokens.now)) }
 {
     match tokens {
@@ -29,10 +26,7 @@ fn view_line<'a>(
     }
 }
 
-fn lattice_line<'a>(
-    alloc: Global,
-    tokens: &[Lexeme<'a>],
-) -> Result<Option<Statement<'a>>, Memory>
+fn lattice_line<'a>(alloc: Global, tokens: &[Lexeme<'a>]) -> Result<Option<Statement<'a>>, Memory>
     ensures { IfOk result (λ s. option_map stated s ≡ lattice_line (texts tokens.now)) }
 {
     match tokens {
@@ -69,16 +63,11 @@ fn words_of(alloc: Global, tokens: &[Lexeme]) -> Result<List<Word>, Memory>
     Ok(words)
 }
 
-fn var_line<'a>(
-    alloc: Global,
-    tokens: &[Lexeme<'a>],
-) -> Result<Option<Statement<'a>>, Memory>
+fn var_line<'a>(alloc: Global, tokens: &[Lexeme<'a>]) -> Result<Option<Statement<'a>>, Memory>
     ensures { IfOk result (λ s. option_map stated s ≡ var_line (texts tokens.now)) }
 {
     match tokens {
-        [name, values @ ..]
-            if is_variable_name(name.text) && are_value_names(values) =>
-        {
+        [name, values @ ..] if is_variable_name(name.text) && are_value_names(values) => {
             let name = Word::of(alloc, name.text)?;
             let values = words_of(alloc, values)?;
             Ok(Some(Statement::Var(Domain { name, values })))
@@ -87,10 +76,7 @@ fn var_line<'a>(
     }
 }
 
-fn init_line<'a>(
-    alloc: Global,
-    tokens: &[Lexeme<'a>],
-) -> Result<Option<Statement<'a>>, Memory>
+fn init_line<'a>(alloc: Global, tokens: &[Lexeme<'a>]) -> Result<Option<Statement<'a>>, Memory>
     ensures { IfOk result (λ s. option_map stated s ≡ init_line (texts tokens.now)) }
 {
     match parse_guard(alloc, tokens)? {
@@ -99,18 +85,14 @@ fn init_line<'a>(
     }
 }
 
-fn prop_line<'a>(
-    alloc: Global,
-    tokens: &[Lexeme<'a>],
-) -> Result<Option<Statement<'a>>, Memory>
+fn prop_line<'a>(alloc: Global, tokens: &[Lexeme<'a>]) -> Result<Option<Statement<'a>>, Memory>
     ensures { IfOk result (λ s. option_map stated s ≡ prop_line (texts tokens.now)) }
 {
     match tokens {
         [name, value, when, tokens @ ..]
             if when.text == b"when".as_slice()
                 && is_name_text(name.text)
-                && is_name_text(value.text) =>
-        {
+                && is_name_text(value.text) => {
             let Some(guard) = parse_guard(alloc, tokens)? else {
                 return Ok(None);
             };
@@ -155,10 +137,7 @@ fn command_parts<'a>(
     Ok(Some(Statement::Command(name, value, guard, action)))
 }
 
-fn command_line<'a>(
-    alloc: Global,
-    tokens: &[Lexeme<'a>],
-) -> Result<Option<Statement<'a>>, Memory>
+fn command_line<'a>(alloc: Global, tokens: &[Lexeme<'a>]) -> Result<Option<Statement<'a>>, Memory>
     ensures { IfOk result (λ s. option_map stated s ≡ command_line (texts tokens.now)) }
 {
     match tokens {
@@ -166,8 +145,7 @@ fn command_line<'a>(
             if with.text == b"with".as_slice()
                 && when.text == b"when".as_slice()
                 && is_name_text(name.text)
-                && is_name_text(value.text) =>
-        {
+                && is_name_text(value.text) => {
             command_parts(alloc, name.text, value.text, tokens)
         }
         _ => Ok(None),

@@ -91,7 +91,11 @@ fn push_prop(
 }
 
 #[tactic(auto, using(crate::proofs::Gathering::props_from))]
-fn prop_lines(alloc: Global, statements: &[Statement], vars: &Vars) -> Result<List<PropLine>, Memory>
+fn prop_lines(
+    alloc: Global,
+    statements: &[Statement],
+    vars: &Vars,
+) -> Result<List<PropLine>, Memory>
     requires { are_fit vars.now ≡ true }
     ensures { IfOk result (λ props. map prop_value props ≡ props_of vars.now (all_stated statements.now)) }
 {

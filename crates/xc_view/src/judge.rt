@@ -94,8 +94,10 @@ fn is_unknown(alloc: Global, draft: &Draft, s: &Statement) -> Result<bool, Memor
         Statement::Init(guard) | Statement::Prop(_, _, guard) => {
             is_unknown_guard(alloc, guard, &draft.vars)
         }
-        Statement::Command(_, _, guard, action) => Ok(is_unknown_guard(alloc, guard, &draft.vars)?
-            || is_unknown_action(alloc, action.as_slice(), &draft.vars)?),
+        Statement::Command(_, _, guard, action) => Ok(
+            is_unknown_guard(alloc, guard, &draft.vars)?
+                || is_unknown_action(alloc, action.as_slice(), &draft.vars)?,
+        ),
         _ => Ok(false),
     }
 }
