@@ -1,8 +1,9 @@
 -- Faultless statements, one after another, are fair.
 use Rattle.std.proofs.Common.{◌≡◌, ℕ, zero, suc, ◌+◌, ◌*◌, ◌<◌, ◌≤◌, Bool, true, false, ◌&&◌, ◌||◌, not, if◌then◌else◌, nat_lt, nat_le, List, [], ◌∷◌, ◌++◌, map, length, Option, Some, None, refl, sym, ◌∙◌, ap, subst, arith}
 use Rattle.std.specs.List.{list_all, list_any}
+use Rattle.std.specs.Option.{is_none}
 use Rattle.std.specs.Str.{bytes_eq}
-use Rattle.std.proofs.lemmas.Bool.{and_parts, and_from, or_parts, or_from, leb-true, ltb-true, ltb-false, lt-ltb, not_from_false, not-false, cases_Bool, false_from_ne_true, both_ways}
+use Rattle.std.proofs.lemmas.Bool.{and_parts, and_from, or_parts, or_from, leb-true, ltb-true, ltb-false, lt-ltb, not_from_false, not-true, cases_Bool, false_from_ne_true, both_ways}
 use Rattle.std.proofs.Math.Bool.{or-false}
 use Rattle.std.proofs.lemmas.List.{append-nil, map-append}
 use Rattle.std.proofs.lemmas.List.Folds.{list_all-append, list_any-append}
@@ -13,12 +14,12 @@ use Rattle.xc_base.specs.Formats.{Excess, IsFaultless}
 use Rattle.xc_base.proofs.Naming.{same_bytes, bytes_refl, or_false_left, or_false_right}
 use Rattle.xc_base.specs.declared.fault.Counted.TheVariants as counted
 use Rattle.xc_expr.specs.Variables.{names_of, sizes_of, is_domain, are_fit, state_limit}
-use Rattle.xc_expr.specs.Resolving.{sets_twice}
+use Rattle.xc_expr.specs.Resolving.{resolved, resolved_action, sets_twice}
 use Rattle.xc_expr.specs.Written.{Written, Assigned}
 use Rattle.xc_expr.specs.declared.domain.Domain.{Domain}
-use Rattle.xc_view.specs.ViewFiles.{Statement, View, Lattice, Var, Init, Prop, Command, IsStated, vars_of, is_view, is_lattice, is_due, is_due_late, is_behind_vars, is_repeated, is_prop, is_command, is_command_of, count_of, line_limit, line_excess, var_excess, excess_of, view_format}
+use Rattle.xc_view.specs.ViewFiles.{Statement, View, Lattice, Var, Init, Prop, Command, IsStated, vars_of, is_view, is_lattice, is_due, is_due_late, is_behind_vars, is_repeated, is_unknown, is_prop, is_command, is_command_of, count_of, line_limit, line_excess, var_excess, excess_of, view_format}
 use Rattle.xc_view.specs.ViewFiles.IsStated.{view, lattice, var, init, prop, command}
-use Rattle.xc_view.specs.Drafts.{begins, is_named, command_names, AreSized, IsFair}
+use Rattle.xc_view.specs.Drafts.{begins, is_named, is_known, command_names, AreSized, IsFair}
 use Rattle.xc_view.proofs.Sizes.{fit_from_sized}
 
 some_is_not : {X : Type 0} (x : X) → Some x ≡ None → ⊥
@@ -163,6 +164,43 @@ once_new ss (Command name value guard action) h r =
     once_push (command_names ss) name h
     (named_commands name ss ∙ (or_parts (list_any (is_command_of name) ss) (sets_twice action) r).0)
 
+-- where no statement has a guard all names are known, whatever the variables
+none_unknown : (vars : List Domain) (ss : List Statement) → list_any is_behind_vars ss ≡ false → list_all (is_known vars) ss ≡ true
+none_unknown vars [] h = refl
+none_unknown vars (View name ∷ ss) h = none_unknown vars ss h
+none_unknown vars (Lattice file ∷ ss) h = none_unknown vars ss h
+none_unknown vars (Var name values ∷ ss) h = none_unknown vars ss h
+none_unknown vars (Init guard ∷ ss) h = cc
+none_unknown vars (Prop name value guard ∷ ss) h = cc
+none_unknown vars (Command name value guard action ∷ ss) h = cc
+
+var_is_due : (ss : List Statement) (name : List ℕ) (values : List (List ℕ)) → is_due ss (Var name values) ≡ true → list_any is_behind_vars ss ≡ false
+var_is_due [] name values h = cc
+var_is_due (r ∷ []) name values h = cc
+var_is_due (r ∷ t ∷ more) name values h = not-true (list_any is_behind_vars (r ∷ t ∷ more)) h
+
+known_push : (vars : List Domain) (ss : List Statement) (s : Statement) → list_all (is_known vars) ss ≡ true → is_known vars s ≡ true → list_all (is_known vars) (ss ++ s ∷ []) ≡ true
+known_push vars ss s a h =
+    list_all-append (is_known vars) ss (s ∷ []) ∙ and_from (list_all (is_known vars) ss) (is_known vars s && true) a (and_from (is_known vars s) true h refl)
+
+-- a statement that is no variable leaves the variables as they are
+same_known : (ss : List Statement) (s : Statement) → vars_of (s ∷ []) ≡ [] → list_all (is_known (vars_of ss)) ss ≡ true → is_known (vars_of ss) s ≡ true → list_all (is_known (vars_of (ss ++ s ∷ []))) (ss ++ s ∷ []) ≡ true
+same_known ss s e a h =
+    subst (λ (vars : List Domain). list_all (is_known vars) (ss ++ s ∷ []) ≡ true)
+    (sym (vars_append ss (s ∷ []) ∙ ap (λ (more : List Domain). vars_of ss ++ more) e ∙ append-nil (vars_of ss)))
+    (known_push (vars_of ss) ss s a h)
+
+known_new : (ss : List Statement) (s : Statement) → is_due ss s ≡ true → is_unknown ss s ≡ false → list_all (is_known (vars_of ss)) ss ≡ true → list_all (is_known (vars_of (ss ++ s ∷ []))) (ss ++ s ∷ []) ≡ true
+known_new ss (View name) due u a = same_known ss (View name) refl a refl
+known_new ss (Lattice file) due u a = same_known ss (Lattice file) refl a refl
+known_new ss (Var name values) due u a =
+    known_push (vars_of (ss ++ Var name values ∷ [])) ss (Var name values) (none_unknown (vars_of (ss ++ Var name values ∷ [])) ss (var_is_due ss name values due)) refl
+known_new ss (Init guard) due u a = same_known ss (Init guard) refl a (not_from_false (is_none (resolved (vars_of ss) guard)) u)
+known_new ss (Prop name value guard) due u a = same_known ss (Prop name value guard) refl a (not_from_false (is_none (resolved (vars_of ss) guard)) u)
+known_new ss (Command name value guard action) due u a =
+    same_known ss (Command name value guard action) refl a
+    (not_from_false (is_none (resolved (vars_of ss) guard) || is_none (resolved_action (vars_of ss) action)) u)
+
 -- a faultless statement behind fair ones
 pub next_is_fair : (ss : List Statement) (tokens : List (List ℕ)) (s : Statement) → IsFair ss → IsFaultless view_format ss tokens s → IsFair (ss ++ s ∷ [])
 next_is_fair ss tokens s h k =
@@ -170,13 +208,14 @@ next_is_fair ss tokens s h k =
       starts = begins_push ss s h.starts k.due.placed;
       named = named_push ss s h.named (named_from ss k.due.stated k.first);
       sized = subst AreSized (sym (vars_append ss (s ∷ []))) (sized_new (vars_of ss) ss s refl h.sized k.first k.few);
+      known = known_new ss s k.due.placed k.known h.known;
       props = subst (λ (n : ℕ). n ≤ line_limit) (sym (count_append is_prop ss (s ∷ []))) (props_new ss s h.props k.few);
       commands = subst (λ (n : ℕ). n ≤ line_limit) (sym (count_append is_command ss (s ∷ []))) (commands_new ss s h.commands k.few);
       once = ap has_twice (names_append ss (s ∷ [])) ∙ once_new ss s h.once k.first;
     }
 
 pub none_is_fair : IsFair []
-none_is_fair = record { starts = refl; named = refl; sized = record { different = refl; domains = refl; states = omega arith }; props = omega arith; commands = omega arith; once = refl }
+none_is_fair = record { starts = refl; named = refl; sized = record { different = refl; domains = refl; states = omega arith }; known = refl; props = omega arith; commands = omega arith; once = refl }
 
 -- where a statement with a guard is due the variables are fit
 some_vars : (ss : List Statement) (s : Statement) → is_behind_vars s ≡ true → is_due ss s ≡ true → 0 < length (vars_of ss)

@@ -1,5 +1,6 @@
 -- The parts that are gathered from a draft are those of its view.
 use Rattle.std.proofs.Common.{◌≡◌, ℕ, ◌<◌, ◌≤◌, true, List, [], ◌∷◌, map, length, get_or, None, sym, ◌∙◌, ap, subst, arith}
+use Rattle.std.specs.List.{list_all}
 use Rattle.std.proofs.lemmas.List.{length-map}
 use Rattle.xc_expr.specs.Variables.{are_fit}
 use Rattle.xc_expr.specs.Tests.{Test}
@@ -7,7 +8,7 @@ use Rattle.xc_expr.specs.declared.domain.Domain.{Domain}
 use Rattle.xc_view.specs.ViewFiles.{PropValue, CommandValue, ViewValue, vars_of, is_view, is_lattice, first_name, first_lattice, first_init, props_of, commands_of, view_of, missing_part}
 use Rattle.xc_view.specs.Parts.{is_sound}
 use Rattle.xc_view.specs.Statements.{stated}
-use Rattle.xc_view.specs.Drafts.{all_stated, begins}
+use Rattle.xc_view.specs.Drafts.{all_stated, begins, is_known}
 use Rattle.xc_view.specs.declared.draft.Draft.{Draft}
 use Rattle.xc_view.specs.declared.statement.Statement as code
 use Rattle.xc_view.proofs.Sizes.{fit_from_sized}
@@ -24,6 +25,12 @@ module _ (d : Draft) (slice : List code.Statement) (whole : missing_part (all_st
 
   pub vars_are_fit : are_fit d.vars ≡ true
   vars_are_fit = ap are_fit d.same ∙ fit_from_sized (vars_of (all_stated d.statements)) d.fair.sized (var_there (all_stated d.statements) whole)
+
+  pub names_are_known : list_all (is_known d.vars) (all_stated slice) ≡ true
+  names_are_known =
+      ap (λ (ss : List code.Statement). list_all (is_known d.vars) (all_stated ss)) same
+      ∙ ap (λ (vars : List Domain). list_all (is_known vars) (all_stated d.statements)) d.same
+      ∙ d.fair.known
 
   starts : begins (all_stated slice) ≡ true
   starts = ap (λ (ss : List code.Statement). begins (all_stated ss)) same ∙ d.fair.starts

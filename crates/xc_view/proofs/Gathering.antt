@@ -1,12 +1,19 @@
 -- What the statements from a place on say, as loops go over them.
 use Rattle.std.proofs.Common.{◌≡◌, ℕ, suc, ◌+◌, ◌<◌, ◌≤◌, Bool, true, List, [], ◌∷◌, ◌++◌, map, length, get_or, drop, drop-cons, add-one, refl, sym, ◌∙◌, ap, subst, arith}
+use Rattle.std.specs.List.{list_all}
+use Rattle.std.proofs.lemmas.List.Sums.{AllPass-from_list_all}
+use Rattle.std.proofs.lemmas.List.Folds.{list_all-map}
 use Rattle.std.proofs.lemmas.Bool.{and_parts}
 use Rattle.xc_expr.specs.Tests.{Test}
 use Rattle.xc_expr.specs.declared.domain.Domain.{Domain}
 use Rattle.xc_view.specs.ViewFiles.{Statement, View, Lattice, Var, Init, Prop, Command, PropValue, CommandValue, ViewValue, vars_of, is_view, is_lattice, first_name, first_lattice, first_init, props_of, commands_of, view_of}
 use Rattle.xc_view.specs.Statements.{stated}
-use Rattle.xc_view.specs.Drafts.{all_stated, begins}
+use Rattle.xc_view.specs.Drafts.{all_stated, begins, is_known}
 use Rattle.xc_view.specs.declared.statement.Statement as code
+
+-- each of the statements has known names
+pub known_at : (vars : List Domain) (ss : List code.Statement) (i : ℕ) (d : code.Statement) → list_all (is_known vars) (all_stated ss) ≡ true → i < length ss → is_known vars (stated (get_or ss i d)) ≡ true
+known_at vars ss i d h within = AllPass-from_list_all (λ (s : code.Statement). is_known vars (stated s)) ss (sym (list_all-map (is_known vars) stated ss) ∙ h) i d within
 
 pub init_from : (vars : List Domain) (ss : List code.Statement) (i : ℕ) (d : code.Statement) → i < length ss → first_init vars (all_stated (drop i ss)) ≡ first_init vars (stated (get_or ss i d) ∷ all_stated (drop (i + 1) ss))
 init_from vars ss i d h = rw (add-one, drop-cons ss i d)

@@ -1,12 +1,13 @@
 -- What holds of faultless statements, read one after another.
 -- Words for the steps of the code: public clauses do not rest on them.
-use Rattle.std.specs.Prelude.{◌≡◌, ◌≤◌, ℕ, Bool, true, false, ◌&&◌, not, List, [], ◌∷◌, map}
+use Rattle.std.specs.Prelude.{◌≡◌, ◌≤◌, ℕ, Bool, true, false, ◌&&◌, ◌||◌, not, List, [], ◌∷◌, map}
 use Rattle.std.specs.List.{list_all}
+use Rattle.std.specs.Option.{is_none}
 use Rattle.xc_theory.specs.Codes.{total}
 use Rattle.xc_base.specs.Names.{has_twice}
 use Rattle.xc_base.specs.Words.{is_name, is_file_word}
 use Rattle.xc_expr.specs.Variables.{names_of, sizes_of, is_domain, state_limit}
-use Rattle.xc_expr.specs.Resolving.{sets_twice}
+use Rattle.xc_expr.specs.Resolving.{resolved, resolved_action, sets_twice}
 use Rattle.xc_expr.specs.declared.domain.Domain.{Domain}
 use Rattle.xc_view.specs.ViewFiles.{Statement, View, Lattice, Var, Init, Prop, Command, vars_of, is_view, is_lattice, is_prop, is_command, count_of, line_limit}
 use Rattle.xc_view.specs.Statements.{stated}
@@ -26,6 +27,15 @@ is_named (Var name values) = true
 is_named (Init guard) = true
 is_named (Prop name value guard) = is_name name && is_name value
 is_named (Command name value guard action) = is_name name && is_name value && not (sets_twice action)
+
+-- the names in a guard and in an action are known
+abbrev pub is_known : List Domain → Statement → Bool
+is_known vars (View name) = true
+is_known vars (Lattice file) = true
+is_known vars (Var name values) = true
+is_known vars (Init guard) = not (is_none (resolved vars guard))
+is_known vars (Prop name value guard) = not (is_none (resolved vars guard))
+is_known vars (Command name value guard action) = not (is_none (resolved vars guard) || is_none (resolved_action vars action))
 
 -- the names of the commands, in order
 abbrev pub command_names : List Statement → List (List ℕ)
@@ -48,6 +58,7 @@ pub record IsFair (statements : List Statement) : Type 0 where
   pub starts : begins statements ≡ true
   pub named : list_all is_named statements ≡ true
   pub sized : AreSized (vars_of statements)
+  pub known : list_all (is_known (vars_of statements)) statements ≡ true
   pub props : count_of is_prop statements ≤ line_limit
   pub commands : count_of is_command statements ≤ line_limit
   pub once : has_twice (command_names statements) ≡ false

@@ -1,12 +1,15 @@
-ghost use Rattle.std.specs.Prelude.{◌≡◌, ◌++◌, ◌∷◌, [], true, None, map, IfOk, OnOk};
+ghost use Rattle.std.specs.Prelude.{◌≡◌, ◌++◌, ◌∷◌, [], true, false, None, map, IfOk, OnOk};
+ghost use Rattle.std.specs.List.{list_all};
+ghost use Rattle.std.specs.Option.{is_none};
 ghost use Rattle.xc_expr.specs.Variables.{are_fit};
+ghost use Rattle.xc_expr.specs.Resolving.{resolved, resolved_action};
 ghost use Rattle.xc_expr.specs.Tests.{test_of};
 ghost use Rattle.xc_expr.specs.Written.{written, set};
 ghost use Rattle.xc_view.specs.ViewFiles.{is_view, is_lattice, test_in, assigns_in, first_name, first_lattice, first_init, props_of, commands_of, view_of, missing_part};
 ghost use Rattle.xc_view.specs.Parts.{prop_value, command_value};
 ghost use Rattle.xc_view.specs.Views.{value_of};
 ghost use Rattle.xc_view.specs.Statements.{stated};
-ghost use Rattle.xc_view.specs.Drafts.{all_stated};
+ghost use Rattle.xc_view.specs.Drafts.{all_stated, is_known};
 ghost use Rattle.xc_view.specs.Drafted.{drafted};
 
 use crate::draft::Draft;
@@ -37,31 +40,34 @@ fn lattice_name(alloc: Global, s: &Statement) -> Result<Word, Memory>
     }
 }
 
-/// The guard with places in place of names. Each name of a faultless statement is known.
+/// The guard with places in place of names, where all names are known.
 fn known_guard(alloc: Global, phrase: &Phrase, vars: &Vars) -> Result<Guard, Memory>
-    requires { are_fit vars.now ≡ true }
+    requires fit { are_fit vars.now ≡ true }
+    requires known { is_none (resolved vars.now (written phrase.now)) ≡ false }
     ensures { IfOk result (λ guard. test_of guard ≡ test_in vars.now (written phrase.now)) }
 {
     match resolve_guard(alloc, phrase, vars)? {
         Some(guard) => Ok(guard),
-        None => Ok(Guard::False),
+        None => unreachable!(),
     }
 }
 
 /// The same of an action.
 fn known_action(alloc: Global, settings: &[Setting], vars: &Vars) -> Result<Action, Memory>
-    requires { are_fit vars.now ≡ true }
+    requires fit { are_fit vars.now ≡ true }
+    requires known { is_none (resolved_action vars.now (map set settings.now)) ≡ false }
     ensures { IfOk result (λ action. action ≡ assigns_in vars.now (map set settings.now)) }
 {
     match resolve_action(alloc, settings, vars)? {
         Some(action) => Ok(action),
-        None => Ok(List::new(alloc)),
+        None => unreachable!(),
     }
 }
 
-#[tactic(auto, using(crate::proofs::Gathering::init_from))]
+#[tactic(auto, using(crate::proofs::Gathering::init_from, crate::proofs::Gathering::known_at))]
 fn init_guard(alloc: Global, statements: &[Statement], vars: &Vars) -> Result<Guard, Memory>
-    requires { are_fit vars.now ≡ true }
+    requires fit { are_fit vars.now ≡ true }
+    requires known { list_all (is_known vars.now) (all_stated statements.now) ≡ true }
     ensures { IfOk result (λ guard. test_of guard ≡ first_init vars.now (all_stated statements.now)) }
 {
     for s in statements {
@@ -78,7 +84,8 @@ fn push_prop(
     s: &Statement,
     props: &mut List<PropLine>,
 ) -> Result<(), Memory>
-    requires { are_fit vars.now ≡ true }
+    requires fit { are_fit vars.now ≡ true }
+    requires known { is_known vars.now (stated s.now) ≡ true }
     ensures { OnOk result (map prop_value props.new ≡ map prop_value props.old ++ props_of vars.now (stated s.now ∷ [])) }
 {
     if let Statement::Prop(name, value, phrase) = s {
@@ -90,13 +97,14 @@ fn push_prop(
     Ok(())
 }
 
-#[tactic(auto, using(crate::proofs::Gathering::props_from))]
+#[tactic(auto, using(crate::proofs::Gathering::props_from, crate::proofs::Gathering::known_at))]
 fn prop_lines(
     alloc: Global,
     statements: &[Statement],
     vars: &Vars,
 ) -> Result<List<PropLine>, Memory>
-    requires { are_fit vars.now ≡ true }
+    requires fit { are_fit vars.now ≡ true }
+    requires known { list_all (is_known vars.now) (all_stated statements.now) ≡ true }
     ensures { IfOk result (λ props. map prop_value props ≡ props_of vars.now (all_stated statements.now)) }
 {
     let mut props = List::new(alloc);
@@ -112,7 +120,8 @@ fn push_command(
     s: &Statement,
     commands: &mut List<Command>,
 ) -> Result<(), Memory>
-    requires { are_fit vars.now ≡ true }
+    requires fit { are_fit vars.now ≡ true }
+    requires known { is_known vars.now (stated s.now) ≡ true }
     ensures { OnOk result (map command_value commands.new ≡ map command_value commands.old ++ commands_of vars.now (stated s.now ∷ [])) }
 {
     if let Statement::Command(name, value, phrase, settings) = s {
@@ -130,9 +139,10 @@ fn push_command(
     Ok(())
 }
 
-#[tactic(auto, using(crate::proofs::Gathering::commands_from))]
+#[tactic(auto, using(crate::proofs::Gathering::commands_from, crate::proofs::Gathering::known_at))]
 fn commands(alloc: Global, statements: &[Statement], vars: &Vars) -> Result<List<Command>, Memory>
-    requires { are_fit vars.now ≡ true }
+    requires fit { are_fit vars.now ≡ true }
+    requires known { list_all (is_known vars.now) (all_stated statements.now) ≡ true }
     ensures { IfOk result (λ commands. map command_value commands ≡ commands_of vars.now (all_stated statements.now)) }
 {
     let mut commands = List::new(alloc);

@@ -1,7 +1,7 @@
 use Rattle.std.proofs.Common.{◌∙◌, map}
 use Rattle.xc_expr.specs.Tests.{test_of}
 use Rattle.xc_view.specs.Parts.{prop_value, command_value}
-use Rattle.xc_view.proofs.Gathered.{vars_are_fit, second_is, gathered, gathered_sound}
+use Rattle.xc_view.proofs.Gathered.{vars_are_fit, names_are_known, second_is, gathered, gathered_sound}
 use Rattle.xc_view.proofs.gather.gather.Goals as goal
 
 pub lattice_name-requires : goal.lattice_name-requires
@@ -9,13 +9,25 @@ lattice_name-requires c =
     second_is c.args.draft c.as_slice-statements.result.now c.requires c.as_slice-statements.ensures c.index-statements-1.result c.index-statements-1.is
 
 pub init_guard-requires : goal.init_guard-requires
-init_guard-requires c = vars_are_fit c.args.draft c.as_slice-statements.result.now c.requires c.as_slice-statements.ensures
+init_guard-requires c =
+    record {
+      fit = vars_are_fit c.args.draft c.as_slice-statements.result.now c.requires c.as_slice-statements.ensures;
+      known = names_are_known c.args.draft c.as_slice-statements.result.now c.requires c.as_slice-statements.ensures;
+    }
 
 pub prop_lines-requires : goal.prop_lines-requires
-prop_lines-requires c = vars_are_fit c.args.draft c.as_slice-statements.result.now c.requires c.as_slice-statements.ensures
+prop_lines-requires c =
+    record {
+      fit = vars_are_fit c.args.draft c.as_slice-statements.result.now c.requires c.as_slice-statements.ensures;
+      known = names_are_known c.args.draft c.as_slice-statements.result.now c.requires c.as_slice-statements.ensures;
+    }
 
 pub commands-requires : goal.commands-requires
-commands-requires c = vars_are_fit c.args.draft c.as_slice-statements.result.now c.requires c.as_slice-statements.ensures
+commands-requires c =
+    record {
+      fit = vars_are_fit c.args.draft c.as_slice-statements.result.now c.requires c.as_slice-statements.ensures;
+      known = names_are_known c.args.draft c.as_slice-statements.result.now c.requires c.as_slice-statements.ensures;
+    }
 
 pub of-requires : goal.of-requires
 of-requires c =
