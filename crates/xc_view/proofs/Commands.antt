@@ -1,16 +1,15 @@
 -- A command's tokens, split at the first `do`.
 use Rattle.std.proofs.Common.{◌≡◌, ℕ, ◌+◌, ◌-◌, List, map, length, take, drop, codes, Option, Some, None, sym, ◌∙◌, ap}
 use Rattle.std.specs.List.{position}
-use Rattle.std.specs.Option.{option_map}
 use Rattle.std.specs.Str.{bytes_eq}
 use Rattle.xc_base.specs.declared.lines.Lexeme.{Lexeme}
 use Rattle.xc_base.specs.Lines.{texts}
-use Rattle.xc_expr.specs.Written.{Written, Assigned, written, set}
+use Rattle.xc_expr.specs.Written.{written, set}
 use Rattle.xc_expr.specs.Resolving.{both}
 use Rattle.xc_expr.specs.Reading.{guard_in, action_in}
 use Rattle.xc_expr.specs.declared.phrase.Phrase.{Phrase}
 use Rattle.xc_expr.specs.declared.setting.Setting.{Setting}
-use Rattle.xc_view.specs.ViewFiles.{Statement, Command}
+use Rattle.xc_view.specs.ViewFiles.{Command}
 use Rattle.xc_view.specs.Deciding.{command_at, command_parts}
 use Rattle.xc_view.proofs.Tokens.{do_in_texts, front_texts, back_texts}
 

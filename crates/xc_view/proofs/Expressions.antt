@@ -9,15 +9,19 @@ use Rattle.xc_expr.proofs.GuardWords.{no_do as no_do_spelled}
 use Rattle.xc_expr.proofs.ActionSpelling.{actions_are_read}
 use Rattle.xc_expr.proofs.KnownActions.{known_action_in_range}
 
+-- guards are read as they are spelled
 pub guards_read : GuardsAreRead
 guards_read = guard_read
 
+-- and so are actions
 pub actions_read : ActionsAreRead
 actions_read = actions_are_read
 
+-- guards with known names are in range
 pub guards_in_range : KnownGuardsAreInRange
 guards_in_range = resolved_in_range
 
+-- and so are actions
 pub actions_in_range : KnownActionsAreInRange
 actions_in_range = known_action_in_range
 

@@ -1,11 +1,11 @@
 -- The parts that are gathered from a draft are those of its view.
-use Rattle.std.proofs.Common.{◌≡◌, ℕ, ◌<◌, ◌≤◌, true, List, [], ◌∷◌, map, length, get_or, None, sym, ◌∙◌, ap, subst, arith}
+use Rattle.std.proofs.Common.{◌≡◌, ℕ, ◌≤◌, true, List, [], ◌∷◌, length, get_or, None, sym, ◌∙◌, ap, subst, arith}
 use Rattle.std.specs.List.{list_all}
 use Rattle.std.proofs.lemmas.List.{length-map}
 use Rattle.xc_expr.specs.Variables.{are_fit}
 use Rattle.xc_expr.specs.Tests.{Test}
 use Rattle.xc_expr.specs.declared.domain.Domain.{Domain}
-use Rattle.xc_view.specs.ViewFiles.{PropValue, CommandValue, ViewValue, vars_of, is_view, is_lattice, first_name, first_lattice, first_init, props_of, commands_of, view_of, missing_part}
+use Rattle.xc_view.specs.ViewFiles.{PropValue, CommandValue, ViewValue, vars_of, is_lattice, first_name, first_lattice, first_init, props_of, commands_of, missing_part}
 use Rattle.xc_view.specs.Parts.{is_sound}
 use Rattle.xc_view.specs.Statements.{stated}
 use Rattle.xc_view.specs.Drafts.{all_stated, begins, is_known}

@@ -1,5 +1,5 @@
 -- What the statements from a place on say, as loops go over them.
-use Rattle.std.proofs.Common.{◌≡◌, ℕ, suc, ◌+◌, ◌<◌, ◌≤◌, Bool, true, List, [], ◌∷◌, ◌++◌, map, length, get_or, drop, drop-cons, add-one, refl, sym, ◌∙◌, ap, subst, arith}
+use Rattle.std.proofs.Common.{◌≡◌, ℕ, suc, ◌+◌, ◌<◌, ◌≤◌, true, List, [], ◌∷◌, ◌++◌, length, get_or, drop, drop-cons, add-one, refl, sym, ◌∙◌, subst, arith}
 use Rattle.std.specs.List.{list_all}
 use Rattle.std.proofs.lemmas.List.Sums.{AllPass-from_list_all}
 use Rattle.std.proofs.lemmas.List.Folds.{list_all-map}
@@ -15,6 +15,7 @@ use Rattle.xc_view.specs.declared.statement.Statement as code
 pub known_at : (vars : List Domain) (ss : List code.Statement) (i : ℕ) (d : code.Statement) → list_all (is_known vars) (all_stated ss) ≡ true → i < length ss → is_known vars (stated (get_or ss i d)) ≡ true
 known_at vars ss i d h within = AllPass-from_list_all (λ (s : code.Statement). is_known vars (stated s)) ss (sym (list_all-map (is_known vars) stated ss) ∙ h) i d within
 
+-- what comes from a place on is the statement there and those behind
 pub init_from : (vars : List Domain) (ss : List code.Statement) (i : ℕ) (d : code.Statement) → i < length ss → first_init vars (all_stated (drop i ss)) ≡ first_init vars (stated (get_or ss i d) ∷ all_stated (drop (i + 1) ss))
 init_from vars ss i d h = rw (add-one, drop-cons ss i d)
 
@@ -27,6 +28,7 @@ props_cons vars (Init guard) more = refl
 props_cons vars (Prop name value guard) more = refl
 props_cons vars (Command name value guard action) more = refl
 
+-- the commands likewise
 commands_cons : (vars : List Domain) (s : Statement) (more : List Statement) → commands_of vars (s ∷ more) ≡ commands_of vars (s ∷ []) ++ commands_of vars more
 commands_cons vars (View name) more = refl
 commands_cons vars (Lattice file) more = refl
@@ -35,9 +37,11 @@ commands_cons vars (Init guard) more = refl
 commands_cons vars (Prop name value guard) more = refl
 commands_cons vars (Command name value guard action) more = refl
 
+-- propositions' lines from a place on
 pub props_from : (vars : List Domain) (ss : List code.Statement) (i : ℕ) (d : code.Statement) → i < length ss → props_of vars (all_stated (drop i ss)) ≡ props_of vars (stated (get_or ss i d) ∷ []) ++ props_of vars (all_stated (drop (i + 1) ss))
 props_from vars ss i d h = rw (add-one, drop-cons ss i d) (props_cons vars (stated (get_or ss i d)) (all_stated (drop (suc i) ss)))
 
+-- commands from a place on
 pub commands_from : (vars : List Domain) (ss : List code.Statement) (i : ℕ) (d : code.Statement) → i < length ss → commands_of vars (all_stated (drop i ss)) ≡ commands_of vars (stated (get_or ss i d) ∷ []) ++ commands_of vars (all_stated (drop (i + 1) ss))
 commands_from vars ss i d h = rw (add-one, drop-cons ss i d) (commands_cons vars (stated (get_or ss i d)) (all_stated (drop (suc i) ss)))
 
@@ -49,6 +53,7 @@ module _ (s t : code.Statement) (more : List code.Statement) (b : begins (all_st
   lattice_here : is_lattice (stated t) ≡ true
   lattice_here = (and_parts (is_view (stated s)) (is_lattice (stated t)) b).1
 
+-- the name stands in the first statement
 name_is : (s : Statement) (more : List Statement) → is_view s ≡ true → first_name (s ∷ more) ≡ first_name (s ∷ [])
 name_is (View name) more h = refl
 name_is (Lattice file) more h = cc
@@ -57,6 +62,7 @@ name_is (Init guard) more h = cc
 name_is (Prop name value guard) more h = cc
 name_is (Command name value guard action) more h = cc
 
+-- the lattice stands in the second
 lattice_is : (s t : Statement) (more : List Statement) → is_view s ≡ true → is_lattice t ≡ true → first_lattice (s ∷ t ∷ more) ≡ first_lattice (t ∷ [])
 lattice_is (View name) (Lattice file) more h k = refl
 lattice_is (View name) (View other) more h k = cc
@@ -79,6 +85,7 @@ first_is_view (r ∷ t ∷ more) s two b e =
     subst (λ (x : code.Statement). (is_view (stated x) ≡ true) × (first_name (all_stated (r ∷ t ∷ more)) ≡ first_name (stated x ∷ []))) (sym e)
     (kind, name_is (stated r) (all_stated (t ∷ more)) kind)
 
+-- likewise at the second place
 pub second_is_lattice : (ss : List code.Statement) (s : code.Statement) → 2 ≤ length ss → begins (all_stated ss) ≡ true → s ≡ get_or ss 1 s → (is_lattice (stated s) ≡ true) × (first_lattice (all_stated ss) ≡ first_lattice (stated s ∷ []))
 second_is_lattice [] s two b e = absurd (omega arith)
 second_is_lattice (r ∷ []) s two b e = absurd (omega arith)

@@ -28,6 +28,7 @@ rest_after : (before : List Statement) (rows : List Row) (i : ℕ) (s : Statemen
 rest_after before rows i s within h =
     sym (ap (statements_of view_format decide before) (row_first rows i within) ∙ statements_of-next view_format decide before (row_at rows i) (drop (i + 1) rows) s h)
 
+-- the same, as the statements of the code are seen
 pub row_after : (ss all : List code.Statement) (s : code.Statement) (rows : List Row) (i : ℕ) → all ≡ ss ++ s ∷ [] → i < length rows → line_of view_format decide (all_stated ss) (row_at rows i) ≡ Ok (stated s)
     → statements_of view_format decide (all_stated all) (drop (i + 1) rows) ≡ statements_of view_format decide (all_stated ss) (drop i rows)
 row_after ss all s rows i together within h =

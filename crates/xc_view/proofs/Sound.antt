@@ -1,7 +1,7 @@
 -- What fair statements of a whole file say is sound.
-use Rattle.std.proofs.Common.{◌≡◌, ℕ, suc, ◌+◌, ◌<◌, ◌≤◌, Bool, true, false, ◌&&◌, not, if◌then◌else◌, nat_lt, nat_le, List, [], ◌∷◌, map, length, get_or, Option, Some, None, unwrap_or, refl, sym, ◌∙◌, ap, subst, arith}
+use Rattle.std.proofs.Common.{◌≡◌, ℕ, ◌<◌, ◌≤◌, Bool, true, false, ◌&&◌, not, if◌then◌else◌, nat_lt, List, [], ◌∷◌, map, length, Option, Some, None, unwrap_or, refl, ◌∙◌, ap, arith}
 use Rattle.std.specs.List.{list_all, list_any}
-use Rattle.std.proofs.lemmas.Bool.{and_parts, and_from, not-true, not_from_false, ltb-true, le-leb, cases_Bool}
+use Rattle.std.proofs.lemmas.Bool.{and_parts, and_from, not-true, not_from_false, ltb-true, le-leb}
 use Rattle.xc_base.specs.Names.{has_twice}
 use Rattle.xc_base.specs.Words.{is_name, is_file_word}
 use Rattle.xc_base.specs.declared.fault.Part.{Part}
@@ -14,12 +14,13 @@ use Rattle.xc_expr.specs.Written.{Written, Assigned}
 use Rattle.xc_expr.specs.Resolving.{resolved, resolved_action, sets_twice}
 use Rattle.xc_expr.specs.declared.domain.Domain.{Domain}
 use Rattle.xc_expr.specs.declared.assign.Assign.{Assign}
-use Rattle.xc_view.specs.ViewFiles.{Statement, View, Lattice, Var, Init, Prop, Command, PropValue, CommandValue, ViewValue, vars_of, is_view, is_lattice, is_init, is_prop, is_command, count_of, line_limit, missing_part, test_in, assigns_in, first_name, first_lattice, first_init, props_of, commands_of, view_of}
+use Rattle.xc_view.specs.ViewFiles.{Statement, View, Lattice, Var, Init, Prop, Command, CommandValue, ViewValue, vars_of, is_view, is_lattice, is_init, is_prop, is_command, count_of, line_limit, missing_part, test_in, assigns_in, first_name, first_lattice, first_init, props_of, commands_of, view_of}
 use Rattle.xc_view.specs.Parts.{is_prop_in, is_command_in, is_sound}
 use Rattle.xc_view.specs.Drafts.{begins, is_named, command_names, IsFair}
 use Rattle.xc_view.proofs.Sizes.{fit_from_sized}
 use Rattle.xc_view.proofs.Expressions.{guards_in_range, actions_in_range}
 
+-- an option with a value is not empty
 some_is_not : {X : Type 0} (x : X) → Some x ≡ None → ⊥
 some_is_not x e = cc
 
@@ -31,6 +32,7 @@ test_in_range vars guard fit = by_test (resolved vars guard) refl
     by_test None e = refl
     by_test (Some test) e = guards_in_range vars guard test fit e
 
+-- actions likewise
 assigns_in_range : (vars : List Domain) (action : List Assigned) → are_fit vars ≡ true → sets_twice action ≡ false → is_action_in_range vars (assigns_in vars action) ≡ true
 assigns_in_range vars action fit once = by_action (resolved_action vars action) refl
   where
@@ -38,6 +40,7 @@ assigns_in_range vars action fit once = by_action (resolved_action vars action) 
     by_action None e = refl
     by_action (Some assigns) e = actions_in_range vars action assigns fit once e
 
+-- the guard of the initial states is in range
 init_in_range : (vars : List Domain) (ss : List Statement) → are_fit vars ≡ true → is_in_range vars (first_init vars ss) ≡ true
 init_in_range vars [] fit = refl
 init_in_range vars (View name ∷ ss) fit = init_in_range vars ss fit
@@ -84,6 +87,7 @@ props_counted vars (Init guard ∷ ss) = omega (arith, props_counted vars ss)
 props_counted vars (Prop name value guard ∷ ss) = omega (arith, props_counted vars ss)
 props_counted vars (Command name value guard action ∷ ss) = omega (arith, props_counted vars ss)
 
+-- and how many commands
 commands_counted : (vars : List Domain) (ss : List Statement) → length (commands_of vars ss) ≡ count_of is_command ss
 commands_counted vars [] = refl
 commands_counted vars (View name ∷ ss) = omega (arith, commands_counted vars ss)
@@ -109,6 +113,7 @@ two_there [] h = absurd (some_is_not parts.Head h)
 two_there (s ∷ []) h = absurd (some_is_not parts.Lattice h)
 two_there (s ∷ t ∷ more) h = omega arith
 
+-- a whole file has a variable
 pub var_there : (ss : List Statement) → missing_part ss ≡ None → 0 < length (vars_of ss)
 var_there [] h = absurd (some_is_not parts.Head h)
 var_there (s ∷ []) h = absurd (some_is_not parts.Lattice h)
@@ -118,6 +123,7 @@ var_there (s ∷ t ∷ more) h = within (nat_lt 0 (length (vars_of (s ∷ t ∷ 
     within true rest e k = ltb-true 0 (length (vars_of (s ∷ t ∷ more))) e
     within false rest e k = absurd (some_is_not parts.Var k)
 
+-- the first statement has a name
 head_named : (ss : List Statement) → 2 ≤ length ss → begins ss ≡ true → list_all is_named ss ≡ true → is_name (first_name ss) ≡ true
 head_named [] two b h = absurd (omega arith)
 head_named (s ∷ []) two b h = absurd (omega arith)
@@ -128,6 +134,7 @@ head_named (Init guard ∷ t ∷ more) two b h = cc
 head_named (Prop name value guard ∷ t ∷ more) two b h = cc
 head_named (Command name value guard action ∷ t ∷ more) two b h = cc
 
+-- the second has a file word
 second_named : (s t : Statement) (more : List Statement) → is_view s ≡ true → is_lattice t ≡ true → is_named t ≡ true → is_file_word (first_lattice (s ∷ t ∷ more)) ≡ true
 second_named (View name) (Lattice file) more s_is t_is h = h
 second_named (View name) (View other) more s_is t_is h = cc
@@ -141,6 +148,7 @@ second_named (Init guard) t more s_is t_is h = cc
 second_named (Prop name value guard) t more s_is t_is h = cc
 second_named (Command name value guard action) t more s_is t_is h = cc
 
+-- the lattice's file is a file word
 lattice_named : (ss : List Statement) → 2 ≤ length ss → begins ss ≡ true → list_all is_named ss ≡ true → is_file_word (first_lattice ss) ≡ true
 lattice_named [] two b h = absurd (omega arith)
 lattice_named (s ∷ []) two b h = absurd (omega arith)
@@ -149,6 +157,7 @@ lattice_named (s ∷ t ∷ more) two b h =
     let rest = and_parts (is_named s) (list_all is_named (t ∷ more)) h in
     second_named s t more kinds.0 kinds.1 (and_parts (is_named t) (list_all is_named more) rest.1).0
 
+-- what a whole file says is sound
 pub view_is_sound : (ss : List Statement) → IsFair ss → missing_part ss ≡ None → is_sound (view_of ss) ≡ true
 view_is_sound ss h m =
     let vars : List Domain = vars_of ss in

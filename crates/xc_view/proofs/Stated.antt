@@ -1,13 +1,13 @@
 -- Statements of the code, and what is asked of the statements that they are.
-use Rattle.std.proofs.Common.{◌≡◌, ℕ, ◌+◌, ◌<◌, ◌≤◌, Bool, true, false, ◌||◌, not, Option, Some, None, cond, if◌then◌else◌, nat_lt, List, [], ◌∷◌, ◌++◌, map, length, refl, ap, subst, sym, ◌∙◌, arith}
-use Rattle.std.specs.List.{list_any, list_all, filter}
+use Rattle.std.proofs.Common.{◌≡◌, ℕ, ◌+◌, ◌<◌, ◌≤◌, Bool, true, false, ◌||◌, not, Some, None, if◌then◌else◌, List, [], ◌∷◌, ◌++◌, length, refl, ap, subst, sym, ◌∙◌, arith}
+use Rattle.std.specs.List.{list_any, filter}
 use Rattle.std.proofs.lemmas.List.{map-append}
 use Rattle.std.proofs.lemmas.Bool.{lt-ltb}
 use Rattle.std.specs.Str.{bytes_eq}
 use Rattle.xc_base.specs.Names.{is_among}
 use Rattle.xc_expr.specs.Variables.{names_of}
 use Rattle.xc_expr.specs.declared.domain.Domain.{Domain}
-use Rattle.xc_view.specs.ViewFiles.{Statement, View, Lattice, Var, Init, Prop, Command, vars_of, is_init, missing_part, count_of}
+use Rattle.xc_view.specs.ViewFiles.{Statement, vars_of, is_init, missing_part, count_of}
 use Rattle.xc_base.specs.declared.fault.Part.TheVariants as parts
 use Rattle.xc_view.specs.Statements.{stated}
 use Rattle.xc_view.specs.Drafts.{all_stated, IsFair}
@@ -19,6 +19,7 @@ pub any_stated : (p : Statement → Bool) (ss : List code.Statement) → list_an
 any_stated p [] = refl
 any_stated p (s ∷ ss) = ap (λ b. p (stated s) || b) (any_stated p ss)
 
+-- one statement more
 pub stated_with : (ss all : List code.Statement) (s : code.Statement) → all ≡ ss ++ s ∷ [] → all_stated all ≡ all_stated ss ++ stated s ∷ []
 stated_with ss all s together = ap all_stated together ∙ map-append stated ss (s ∷ [])
 
@@ -48,6 +49,7 @@ pub any_name : (name : List ℕ) (vars : List Domain) → is_among (names_of var
 any_name name [] = refl
 any_name name (d ∷ vars) = ap (λ b. bytes_eq name d.name || b) (any_name name vars)
 
+-- nothing else
 pub or_none : (b : Bool) → (b || false) ≡ b
 or_none true = refl
 or_none false = refl
@@ -67,5 +69,6 @@ vars_with ss all s vars more together same new =
     new ∙ ap (λ (v : List Domain). v ++ vars_of (stated s ∷ [])) same ∙ sym (vars_append (all_stated ss) (stated s ∷ []))
     ∙ sym (ap vars_of (stated_with ss all s together))
 
+-- fair statements, and one more
 pub fair_with : (ss all : List code.Statement) (s : code.Statement) → all ≡ ss ++ s ∷ [] → IsFair (all_stated ss ++ stated s ∷ []) → IsFair (all_stated all)
 fair_with ss all s together h = subst IsFair (sym (stated_with ss all s together)) h

@@ -7,7 +7,6 @@ use Rattle.xc_base.specs.declared.fault.Stop.TheVariants.{File, Memory}
 use Rattle.xc_base.specs.Formats.{Row, IsAccepted, IsFirstFault}
 use Rattle.xc_base.specs.Deciding.{file_of}
 use Rattle.xc_base.specs.Judging.{AreWhole}
-use Rattle.xc_base.specs.Judging as judging
 use Rattle.xc_base.proofs.Deciding.{gives_statements, gives_faults, statements_are_unique, first_faults_are_unique, accepted_has_no_fault, each_is_judged}
 use Rattle.xc_view.specs.ViewFiles.{Statement, ViewValue, missing_part, view_of, view_format}
 use Rattle.xc_view.specs.Deciding.{decide}
@@ -32,6 +31,7 @@ pub stop_is_first : {T : Type 0} (show : T → List Statement) (rows : List Row)
 stop_is_first show rows (File fault) h = (gives_faults view_format decide decides rows fault).0 h
 stop_is_first show rows Memory h = tt
 
+-- the reader hands the stop on
 pub stopped_is_first : (rows : List Row) (stop : Stop) → IsStop rows stop → (r : Result View Stop) → IsErrAnd r (λ other. other ≡ stop) → IfErr r (IsStop rows)
 stopped_is_first rows stop h (Ok v) e = absurd e
 stopped_is_first rows stop h (Err other) e = subst (IsStop rows) (sym e) h
@@ -41,15 +41,19 @@ pub views_are_unique : ViewsAreUnique
 views_are_unique rows v w hv hw =
     hv.says ∙ ap view_of (statements_are_unique view_format decide decides rows hv.statements hw.statements hv.read hw.read) ∙ sym hw.says
 
+-- one first fault
 pub faults_are_unique : FaultsAreUnique
 faults_are_unique rows fault other h k = first_faults_are_unique view_format decide decides rows fault other h k
 
+-- never both
 pub accepted_is_faultless : AcceptedHasNoFault
 accepted_is_faultless rows v fault h k = accepted_has_no_fault view_format decide decides rows v fault h k
 
+-- a whole file says the view of its statements
 judged_by : (rows : List Row) → ((ss : List Statement) × AreWhole view_format rows ss) ⊎ ((fault : FileFault) × IsFirstFault view_format rows fault) → ((v : ViewValue) × IsAccepted view_format rows v) ⊎ ((fault : FileFault) × IsFirstFault view_format rows fault)
 judged_by rows (inl (ss, whole)) = inl (view_of ss, record { statements = ss; read = whole.read; whole = whole.whole; says = refl })
 judged_by rows (inr faulty) = inr faulty
 
+-- each has one
 pub files_are_judged : EachIsJudged
 files_are_judged rows = judged_by rows (each_is_judged view_format decide decides rows)
