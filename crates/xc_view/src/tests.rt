@@ -306,19 +306,34 @@ fn files_have_their_faults(rt: HostRuntime) -> Result<(), Fail> {
     Ok(())
 }
 
+fn write_vars(text: &mut String, count: u32) -> Result<(), AllocError> {
+    for i in 0..count {
+        write!(text, "var x{i} 0 1\n")?;
+    }
+    Ok(())
+}
+
+fn write_props(text: &mut String, count: u32) -> Result<(), AllocError> {
+    for _ in 0..count {
+        text.push_str("prop p T when true\n")?;
+    }
+    Ok(())
+}
+
+fn write_commands(text: &mut String, count: u32) -> Result<(), AllocError> {
+    for i in 0..count {
+        write!(text, "command c{i} with T when true do skip\n")?;
+    }
+    Ok(())
+}
+
 // A view of so many variables with two values, propositions' lines and commands.
 fn large(alloc: Global, vars: u32, props: u32, commands: u32) -> Result<String, AllocError> {
     let mut text = format!(in alloc; "view a\nlattice l\n")?;
-    for i in 0..vars {
-        write!(text, "var x{i} 0 1\n")?;
-    }
+    write_vars(&mut text, vars)?;
     text.push_str("init true\n")?;
-    for _ in 0..props {
-        text.push_str("prop p T when true\n")?;
-    }
-    for i in 0..commands {
-        write!(text, "command c{i} with T when true do skip\n")?;
-    }
+    write_props(&mut text, props)?;
+    write_commands(&mut text, commands)?;
     Ok(text)
 }
 
