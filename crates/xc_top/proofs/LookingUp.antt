@@ -1,11 +1,15 @@
 -- The values of a view among the elements of its lattice.
-use Rattle.std.proofs.Common.{◌≡◌, ℕ, ◌+◌, ◌<◌, Bool, cond, not, List, [], ◌∷◌, ◌++◌, Option, Some, None, length, map, get_or, drop, drop-cons, add-one, refl, sym, ◌∙◌, ap}
-use Rattle.std.specs.List.{find}
+use Rattle.std.proofs.Common.{◌≡◌, ℕ, ◌+◌, ◌<◌, ◌≤◌, Bool, true, cond, not, List, [], ◌∷◌, ◌++◌, Option, Some, None, length, map, get_or, drop, drop-cons, add-one, refl, sym, ◌∙◌, ap}
+use Rattle.std.specs.List.{find, list_all}
 use Rattle.std.specs.Option.{option_or, option_copied}
 use Rattle.std.proofs.lemmas.List.Folds.{find-append}
 use Rattle.xc_base.specs.Names.{is_among}
 use Rattle.xc_view.specs.ViewFiles.{ViewValue, PropValue, CommandValue}
-use Rattle.xc_view.specs.Parts.{prop_value, command_value}
+use Rattle.std.proofs.lemmas.Bool.{and_parts}
+use Rattle.xc_theory.specs.Codes.{total}
+use Rattle.xc_expr.specs.Variables.{sizes_of, is_domain, are_fit, state_limit}
+use Rattle.xc_expr.proofs.Counting.{fit_domains, fit_states}
+use Rattle.xc_view.specs.Parts.{prop_value, command_value, is_sound}
 use Rattle.xc_view.specs.declared.lines.PropLine.{PropLine}
 use Rattle.xc_view.specs.declared.lines.Command.{Command}
 use Rattle.xc_lattice.specs.LatticeFiles.{LatticeValue}
@@ -53,3 +57,15 @@ module _ (v : ViewValue) (l : LatticeValue) (names : List (List ℕ)) (lines : L
   unknown_in_commands commands found also none is =
       is ∙ ap (find (λ w. not (is_among names w))) (sym (command_values commands) ∙ ap (map (λ (c : CommandValue). c.value)) also)
       ∙ sym (or_none (find (λ w. not (is_among names w)) (map (λ (x : PropLine). x.value) lines)) (find (λ w. not (is_among names w)) (map (λ (c : CommandValue). c.value) v.commands)) (sym none)) ∙ lines_first
+
+-- the variables of a sound view
+sound_fit : (v : ViewValue) → is_sound v ≡ true → are_fit v.vars ≡ true
+sound_fit v h =
+    let a = and_parts _ _ (and_parts _ _ (and_parts _ _ (and_parts _ _ (and_parts _ _ h).0).0).0).0 in
+    (and_parts _ _ (and_parts _ _ a.0).0).1
+
+pub sound_domains : (v : ViewValue) → is_sound v ≡ true → list_all is_domain v.vars ≡ true
+sound_domains v h = fit_domains v.vars (sound_fit v h)
+
+pub sound_states : (v : ViewValue) → is_sound v ≡ true → total (sizes_of v.vars) ≤ state_limit
+sound_states v h = fit_states v.vars (sound_fit v h)

@@ -48,6 +48,7 @@ pub(crate) fn unknown<'a>(view: &'a View, lattice: &Lattice) -> Option<&'a Word>
 }
 
 /// How many states a view has.
+#[tactic(auto, using(crate::proofs::LookingUp::sound_domains, crate::proofs::LookingUp::sound_states))]
 pub(crate) fn count(view: &View) -> u32
     ensures { result ≡ states_of (view_of view.now) }
 {

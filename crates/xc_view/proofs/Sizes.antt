@@ -1,5 +1,5 @@
 -- How many states there are over variables, and how many variables there may be.
-use Rattle.std.proofs.Common.{◌≡◌, ℕ, zero, suc, ◌+◌, ◌*◌, ◌^◌, ◌<◌, ◌≤◌, true, List, [], ◌∷◌, ◌++◌, length, inl, inr, get_or, drop, drop-cons, add-one, sym, ◌∙◌, ap, arith}
+use Rattle.std.proofs.Common.{◌≡◌, ℕ, zero, suc, ◌*◌, ◌^◌, ◌<◌, ◌≤◌, true, List, [], ◌∷◌, ◌++◌, length, inl, inr, sym, ◌∙◌, ap, arith}
 use Rattle.std.specs.List.{list_all}
 use Rattle.std.proofs.lemmas.Bool.{and_parts, and_from, leb-true, le-leb, not_from_false, cases_lt}
 use Rattle.std.proofs.Math.Nat.{mul_assoc, mul-le-mul_left, pow-succ'}
@@ -45,25 +45,3 @@ fit_from_sized vars h some =
     and_from _ _
     (and_from _ _ (and_from _ _ (and_from _ _ (le-leb 1 (length vars) (omega arith)) (le-leb (length vars) 20 (few_vars vars h))) (not_from_false (has_twice (names_of vars)) h.different)) h.domains)
     (le-leb (total (sizes_of vars)) state_limit h.states)
-
--- A loop over variables: the product so far, and what it comes to with the rest.
-pub total_from : (vars : List Domain) (i : ℕ) (d : Domain) → i < length vars → total (sizes_of (drop i vars)) ≡ length (get_or vars i d).values * total (sizes_of (drop (i + 1) vars))
-total_from vars i d h = rw (add-one, drop-cons vars i d)
-
--- a factor of a positive number is no larger
-factor_below : (a b t : ℕ) → a * b ≡ t → 1 ≤ t → a ≤ t
-factor_below a zero t e h = absurd (omega arith)
-factor_below a (suc b) t e h = omega arith
-
--- the product so far takes in one size
-pub total_step : (vars : List Domain) (i count : ℕ) (d : Domain) → i < length vars → count * total (sizes_of (drop i vars)) ≡ total (sizes_of vars) → count * length (get_or vars i d).values * total (sizes_of (drop (i + 1) vars)) ≡ total (sizes_of vars)
-total_step vars i count d h e =
-    mul_assoc count (length (get_or vars i d).values) (total (sizes_of (drop (i + 1) vars)))
-    ∙ ap (λ (n : ℕ). count * n) (sym (total_from vars i d h))
-    ∙ e
-
--- and stays below the limit
-pub product_below : (vars : List Domain) (i count : ℕ) (d : Domain) → list_all is_domain vars ≡ true → total (sizes_of vars) ≤ state_limit → i < length vars → count * total (sizes_of (drop i vars)) ≡ total (sizes_of vars) → count * length (get_or vars i d).values ≤ state_limit
-product_below vars i count d domains few h e =
-    let below = factor_below (count * length (get_or vars i d).values) (total (sizes_of (drop (i + 1) vars))) (total (sizes_of vars)) (total_step vars i count d h e) (power_below 0 vars (omega arith) domains) in
-    omega (arith, below, few)

@@ -10,21 +10,7 @@ ghost use Rattle.xc_view.specs.Drafts.{all_stated};
 use crate::draft::Draft;
 use crate::statement::Statement;
 use xc_base::{Counted, FileFault};
-use xc_expr::Vars;
-
-/// How many states there are over some variables.
-#[tactic(auto, using(crate::proofs::Sizes::total_step, crate::proofs::Sizes::product_below))]
-fn state_count(vars: &Vars) -> u64
-    requires domains { list_all is_domain vars.now ≡ true }
-    requires few { total (sizes_of vars.now) ≤ state_limit }
-    ensures { result ≡ total (sizes_of vars.now) }
-{
-    let mut count = 1;
-    for d in vars.as_slice() {
-        count *= d.values.len() as u64;
-    }
-    count
-}
+use xc_expr::{Vars, state_count};
 
 #[tactic(auto, using(crate::proofs::Sizes::total_push))]
 fn var_fault(vars: &Vars, size: usize, line: u32) -> Option<FileFault>
@@ -39,7 +25,7 @@ fn var_fault(vars: &Vars, size: usize, line: u32) -> Option<FileFault>
             found: size as u64,
         });
     }
-    let states = state_count(vars) * size as u64;
+    let states = u64::from(state_count(vars)) * size as u64;
     if states > 1_048_576 {
         return Some(FileFault::Count {
             line,
