@@ -9,8 +9,11 @@ use Rattle.xc_top.proofs.check.load_lattice.Goals as goal
 pub returns-in_err-bytes-clause-prepared : goal.returns-in_err-bytes-clause-prepared
 returns-in_err-bytes-clause-prepared g c =
     let same : c.as_str.result.now ≡ (view_of c.args.view.now).lattice = search rules in
-    search (rules, lattice_not_loaded (view_of c.args.view.now) c.args.formulas.now (g.S.Shelf.seen c.args.shelf.now) (g.S.Shelf.seen c.load.new.shelf) c.in_err-bytes.field-0.0
-    (subst (λ (n : List ℕ). IsLoadHalt n (g.S.Shelf.seen c.args.shelf.now) (g.S.Shelf.seen c.load.new.shelf) c.in_err-bytes.field-0.0) same c.in_err-bytes.ensures.stopped))
+    search (
+      rules,
+      lattice_not_loaded (view_of c.args.view.now) c.args.formulas.now (g.S.Shelf.seen c.args.shelf.now) (g.S.Shelf.seen c.load.new.shelf) c.in_err-bytes.field-0.0
+          (subst (λ (n : List ℕ). IsLoadHalt n (g.S.Shelf.seen c.args.shelf.now) (g.S.Shelf.seen c.load.new.shelf) c.in_err-bytes.field-0.0) same c.in_err-bytes.ensures.stopped),
+    )
 
 pub returns-clause-prepared : goal.returns-clause-prepared
 returns-clause-prepared g c =

@@ -10,19 +10,28 @@ use Rattle.xc_top.proofs.check.with_lattice.Goals as goal
 pub returns-in_err-lines-clause-prepared : goal.returns-in_err-lines-clause-prepared
 returns-in_err-lines-clause-prepared g c =
     let same : c.as_str-name.result.now ≡ (view_of c.args.view.now).lattice = search rules in
-    search (rules, lattice_not_cut (view_of c.args.view.now) c.args.formulas.now c.args.bytes.now (g.S.Shelf.seen c.args.shelf.now) (g.S.Shelf.seen c.args.shelf.now) c.in_err-lines.field-0.0
-    (subst (λ (n : List ℕ). IsCutHalt n c.args.bytes.now c.in_err-lines.field-0.0) same c.in_err-lines.ensures.stopped))
+    search (
+      rules,
+      lattice_not_cut (view_of c.args.view.now) c.args.formulas.now c.args.bytes.now (g.S.Shelf.seen c.args.shelf.now) (g.S.Shelf.seen c.args.shelf.now) c.in_err-lines.field-0.0
+          (subst (λ (n : List ℕ). IsCutHalt n c.args.bytes.now c.in_err-lines.field-0.0) same c.in_err-lines.ensures.stopped),
+    )
 
 pub returns-in_err-lattice-clause-prepared : goal.returns-in_err-lattice-clause-prepared
 returns-in_err-lattice-clause-prepared g c =
     let same : c.as_str-name.result.now ≡ (view_of c.args.view.now).lattice = search rules in
-    search (rules, lattice_refused (view_of c.args.view.now) c.args.formulas.now c.args.bytes.now (rows_in c.in_ok-lines.lines) (g.S.Shelf.seen c.args.shelf.now) (g.S.Shelf.seen c.args.shelf.now) c.in_err-lattice.field-0.0 c.in_ok-lines.ensures.cut
-    (subst (λ (n : List ℕ). IsRefusalHalt (IsLatticeRefusal n (rows_in c.in_ok-lines.lines)) c.in_err-lattice.field-0.0) same c.in_err-lattice.ensures.stopped))
+    search (
+      rules,
+      lattice_refused (view_of c.args.view.now) c.args.formulas.now c.args.bytes.now (rows_in c.in_ok-lines.lines) (g.S.Shelf.seen c.args.shelf.now) (g.S.Shelf.seen c.args.shelf.now) c.in_err-lattice.field-0.0 c.in_ok-lines.ensures.cut
+          (subst (λ (n : List ℕ). IsRefusalHalt (IsLatticeRefusal n (rows_in c.in_ok-lines.lines)) c.in_err-lattice.field-0.0) same c.in_err-lattice.ensures.stopped),
+    )
 
 pub returns-in_err-look_up-clause-prepared : goal.returns-in_err-look_up-clause-prepared
 returns-in_err-look_up-clause-prepared g c =
-    search (rules, value_refused (view_of c.args.view.now) c.args.formulas.now c.args.bytes.now (rows_in c.in_ok-lines.lines) (lattice_of c.in_ok-lattice.lattice) (g.S.Shelf.seen c.args.shelf.now) (g.S.Shelf.seen c.args.shelf.now) c.in_err-look_up.field-0.0
-    c.in_ok-lines.ensures.cut c.in_ok-lattice.ensures.read c.in_err-look_up.ensures.stopped)
+    search (
+      rules,
+      value_refused (view_of c.args.view.now) c.args.formulas.now c.args.bytes.now (rows_in c.in_ok-lines.lines) (lattice_of c.in_ok-lattice.lattice) (g.S.Shelf.seen c.args.shelf.now) (g.S.Shelf.seen c.args.shelf.now) c.in_err-look_up.field-0.0
+          c.in_ok-lines.ensures.cut c.in_ok-lattice.ensures.read c.in_err-look_up.ensures.stopped,
+    )
 
 pub returns-clause-prepared : goal.returns-clause-prepared
 returns-clause-prepared g c =
