@@ -1,1 +1,6 @@
 pub mod Denoting
+pub mod FormulaReading
+pub mod Implications
+pub mod NameReading
+pub mod NameSteps
+pub mod ParserSteps

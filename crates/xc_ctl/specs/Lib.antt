@@ -4,6 +4,7 @@ pub mod Texts
 pub mod Tables
 pub mod FormulaFiles
 pub mod Formulas
+pub mod FormulaReading
 pub mod Reading
 pub mod Frames
 pub mod Denotations

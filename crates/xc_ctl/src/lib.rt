@@ -1,12 +1,16 @@
 //! Formulas of computation tree logic: how they are written, their tables of nodes, and what they mean on a frame.
 #![tactic(auto)]
 
+mod atom_parser;
 mod formula;
 mod kind;
 mod laws;
+mod parser;
+mod phrase;
 mod reader;
+mod words;
 
 pub use formula::{Formula, Formulas};
 pub use kind::Kind;
-pub use laws::formulas_have_one_denotation;
+pub use laws::{formulas_are_read, formulas_have_one_denotation};
 pub use reader::read_formulas;
