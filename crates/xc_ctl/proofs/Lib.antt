@@ -1,6 +1,9 @@
 pub mod Denoting
+pub mod ElementCodes
 pub mod FormulaReading
 pub mod Implications
 pub mod NameReading
 pub mod NameSteps
+pub mod Nodes
 pub mod ParserSteps
+pub mod WrittenOut

@@ -6,6 +6,7 @@ pub mod FormulaFiles
 pub mod Formulas
 pub mod FormulaReading
 pub mod Reading
+pub mod Resolving
 pub mod Frames
 pub mod Denotations
 pub mod Laws

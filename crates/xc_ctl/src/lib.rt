@@ -2,12 +2,17 @@
 #![tactic(auto)]
 
 mod atom_parser;
+mod elements;
 mod formula;
 mod kind;
 mod laws;
+mod numbering;
 mod parser;
 mod phrase;
 mod reader;
+mod resolver;
+mod tree;
+mod vocabulary;
 mod words;
 
 pub use formula::{Formula, Formulas};
