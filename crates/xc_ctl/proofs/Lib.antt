@@ -5,5 +5,6 @@ pub mod Implications
 pub mod NameReading
 pub mod NameSteps
 pub mod Nodes
+pub mod Printing
 pub mod ParserSteps
 pub mod WrittenOut

@@ -5,6 +5,7 @@ pub mod Tables
 pub mod FormulaFiles
 pub mod Formulas
 pub mod FormulaReading
+pub mod Printing
 pub mod Reading
 pub mod Resolving
 pub mod Frames

@@ -46,7 +46,8 @@ pub(crate) fn total_from(parts: &List<List<Word>>, place: usize) -> u16
     total
 }
 
-fn text_at<'a>(values: &[Lexeme<'a>], place: usize) -> &'a [u8]
+/// The text at a place.
+pub(crate) fn text_at<'a>(values: &[Lexeme<'a>], place: usize) -> &'a [u8]
     requires { place < length values.now }
     ensures { result.now ≡ name_at (texts values.now) place }
 {

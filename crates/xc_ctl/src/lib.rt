@@ -9,6 +9,7 @@ mod laws;
 mod numbering;
 mod parser;
 mod phrase;
+mod printer;
 mod reader;
 mod resolver;
 mod tree;
