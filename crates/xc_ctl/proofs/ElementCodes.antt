@@ -1,16 +1,13 @@
 -- Elements of a product, and the names of their digits.
-use Rattle.std.proofs.Common.{◌≡◌, ◌≢◌, ℕ, zero, suc, ◌+◌, ◌-◌, ◌*◌, ◌<◌, ◌≤◌, true, List, [], ◌∷◌, length, drop, drop-cons, add-one, get_or, map, Option, Some, None, refl, sym, ◌∙◌, ap, arith}
+use Rattle.std.proofs.Common.{◌≡◌, ◌≢◌, ℕ, zero, suc, ◌+◌, ◌-◌, ◌*◌, ◌<◌, ◌≤◌, true, List, [], ◌∷◌, length, drop, drop-cons, add-one, get_or, Option, Some, None, refl, sym, ◌∙◌, ap, arith}
 use Rattle.std.specs.List.{list_all, position}
 use Rattle.std.specs.Option.{option_map}
 use Rattle.std.specs.Str.{bytes_eq}
 use Rattle.std.proofs.Math.Nat.{mul_comm}
 use Rattle.std.proofs.lemmas.Bool.{and_parts, leb-true, ltb-true}
-use Rattle.std.proofs.lemmas.List.{drop_all, get_or-map}
+use Rattle.std.proofs.lemmas.List.{drop_all}
 use Rattle.std.proofs.lemmas.List.Sums.{AllPass-from_list_all}
 use Rattle.xc_theory.specs.Codes.{total, code_of}
-use Rattle.xc_base.specs.Lines.{texts}
-use Rattle.xc_base.specs.declared.lines.Lexeme.{Lexeme}
-use Rattle.xc_base.specs.Names.{name_at}
 use Rattle.xc_base.proofs.Naming.{found_in_range}
 use Rattle.xc_ctl.specs.Trees.{Signature, is_part, is_fit, sizes_of, both, digits_named, element_named}
 use Rattle.xc_ctl.specs.Resolving.{part_at, digit_at, total_from, element_from, room}

@@ -1,10 +1,10 @@
 -- The table of a tree.
-use Rattle.std.proofs.Common.{◌≡◌, ℕ, suc, ◌+◌, ◌-◌, ◌<◌, ◌≤◌, List, [], ◌∷◌, ◌++◌, length, length-append, append_assoc, refl, sym, ◌∙◌, ap, arith}
+use Rattle.std.proofs.Common.{◌≡◌, ℕ, ◌+◌, ◌-◌, ◌≤◌, List, [], ◌∷◌, ◌++◌, length, length-append, append_assoc, refl, ◌∙◌, ap, arith}
 use Rattle.xc_ctl.specs.Trees.{Tree}
 use Rattle.xc_ctl.specs.Trees as trees
 use Rattle.xc_ctl.specs.Tables.{size_of, nodes_from}
 use Rattle.xc_ctl.specs.declared.kind.Kind.{Kind}
-use Rattle.xc_ctl.specs.declared.kind.Kind.TheVariants.{Const, Atom, Not, And, Or, Ex}
+use Rattle.xc_ctl.specs.declared.kind.Kind.TheVariants.{Not, And, Or, Ex}
 
 -- a tree has a node
 pub size_some : (t : Tree) → 1 ≤ size_of t

@@ -4,6 +4,7 @@ pub mod Texts
 pub mod Tables
 pub mod FormulaFiles
 pub mod Formulas
+pub mod Deciding
 pub mod FormulaReading
 pub mod Printing
 pub mod Reading

@@ -12,6 +12,7 @@ mod phrase;
 mod printer;
 mod reader;
 mod resolver;
+mod rows;
 mod tree;
 mod vocabulary;
 mod words;

@@ -43,7 +43,9 @@ fn digit_name(parts: &List<List<Word>>, place: usize, digit: u16) -> &[u8]
     requires digit { digit < length (part_at parts.now place) }
     ensures { result.now ≡ name_at (part_at parts.now place) digit }
 {
-    part_at(parts, place)[usize::from(digit)].as_str().as_bytes()
+    part_at(parts, place)[usize::from(digit)]
+        .as_str()
+        .as_bytes()
 }
 
 /// Appends the names of an element's digits, with a `,` between two.
@@ -210,11 +212,7 @@ fn spaced(alloc: Global, tokens: &[Lexeme]) -> Result<Bytes, Memory>
 }
 
 /// The text of a tree.
-pub(crate) fn text_of(
-    alloc: Global,
-    tree: &Tree,
-    vocabulary: &Vocabulary,
-) -> Result<Bytes, Memory>
+pub(crate) fn text_of(alloc: Global, tree: &Tree, vocabulary: &Vocabulary) -> Result<Bytes, Memory>
     requires { is_tree_in (total (sizes_of vocabulary.now.parts.now)) (length vocabulary.now.props.now) (tree_of tree.now) ≡ true }
     ensures { IfOk result (λ text. text ≡ text_of (signature vocabulary.now) (tree_of tree.now)) }
 {
