@@ -13,4 +13,5 @@ pub mod Ranges
 pub mod Reading
 pub mod Sizes
 pub mod TreeTables
+pub mod Verdicts
 pub mod WrittenOut

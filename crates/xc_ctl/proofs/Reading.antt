@@ -1,5 +1,7 @@
 -- The steps of a reader of formulas.
-use Rattle.std.proofs.Common.{◌≡◌, ℕ, ◌+◌, ◌<◌, List, [], ◌∷◌, ◌++◌, length, drop, Some, None, Result, Ok, Err, refl, sym, ◌∙◌, ap, arith}
+use Rattle.std.proofs.Common.{◌≡◌, ℕ, ◌+◌, ◌<◌, true, List, [], ◌∷◌, ◌++◌, length, drop, Some, None, Result, Ok, Err, refl, sym, ◌∙◌, ap, subst, arith}
+use Rattle.std.specs.List.{list_all}
+use Rattle.xc_theory.specs.Codes.{total}
 use Rattle.std.proofs.lemmas.List.{drop_all, map-append, length-map}
 use Rattle.xc_base.specs.declared.fault.FileFault.{FileFault}
 use Rattle.xc_base.specs.declared.fault.FileFault.TheVariants.{Missing}
@@ -12,12 +14,14 @@ use Rattle.xc_base.specs.Lines.{row_at}
 use Rattle.xc_base.proofs.Rows.{row_first}
 use Rattle.xc_base.proofs.Deciding.{statements_of-end, statements_of-next, statements_of-stops, gives_statements, gives_faults}
 use Rattle.xc_ctl.specs.Written.{Written}
-use Rattle.xc_ctl.specs.Trees.{Signature, resolved}
+use Rattle.xc_ctl.specs.Trees.{Signature, sizes_of, is_fit, resolved}
+use Rattle.xc_ctl.specs.Tables.{is_table_in}
 use Rattle.xc_ctl.specs.FormulaFiles.{missing_part, table_in, tables_of, formula_format, IsStop}
 use Rattle.xc_ctl.specs.Deciding.{decide, row_table, tables_in, HasRead}
 use Rattle.xc_ctl.specs.declared.formula.Formula.{Formula}
 use Rattle.xc_ctl.specs.declared.kind.Kind.{Kind}
 use Rattle.xc_ctl.proofs.Deciding.{decides, table_ok, row_is}
+use Rattle.xc_ctl.proofs.Ranges.{tables_in_range}
 
 module _ (n : Signature) (rows : List Row) where
   -- no row is read
@@ -82,9 +86,9 @@ module _ (n : Signature) (rows : List Row) where
   some_formula [] t more e = cc
   some_formula (f ∷ formulas) t more e = refl
 
-  pub read_accepted : (t : List Kind) (more : List (List Kind)) → HasRead n rows (length rows) (t ∷ more) → IsAccepted (formula_format n) rows (t ∷ more)
+  table_accepted : (t : List Kind) (more : List (List Kind)) → HasRead n rows (length rows) (t ∷ more) → IsAccepted (formula_format n) rows (t ∷ more)
   unfolding file_of
-  read_accepted t more h =
+  table_accepted t more h =
       let all = all_read (t ∷ more) h in
       let some = some_formula h.formulas t more h.same in
       let w = (gives_statements (formula_format n) decide (decides n) rows h.formulas).0 (rw (all, some) refl) in
@@ -94,7 +98,7 @@ module _ (n : Signature) (rows : List Row) where
   no_formula [] e = refl
   no_formula (f ∷ formulas) e = cc
 
-  pub none_lacks : HasRead n rows (length rows) [] → IsStop n rows (File (Missing parts.Formula))
+  none_lacks : HasRead n rows (length rows) [] → IsStop n rows (File (Missing parts.Formula))
   unfolding file_of
   none_lacks h =
       let all = all_read [] h in
@@ -110,3 +114,19 @@ tables_count formulas = length-map formulas (λ (g : Formula). g.nodes)
 
 -- all steps of the rows
 pub ruleset row_steps = (none_read, more_read, stops_at, tables_more, tables_count)
+
+-- what is read of a file, where there is a formula and where there is none
+pub read_accepted : (n : Signature) (rows : List Row) (formulas : List Formula) → HasRead n rows (length rows) (tables_in formulas) → 0 < length formulas → IsAccepted (formula_format n) rows (tables_in formulas)
+read_accepted n rows [] h some = absurd (omega arith)
+read_accepted n rows (f ∷ formulas) h some = table_accepted n rows f.nodes (tables_in formulas) h
+
+pub read_lacks : (n : Signature) (rows : List Row) (formulas : List Formula) → HasRead n rows (length rows) (tables_in formulas) → length formulas ≡ 0 → IsStop n rows (File (Missing parts.Formula))
+read_lacks n rows [] h none = none_lacks n rows h
+read_lacks n rows (f ∷ formulas) h none = absurd (omega arith)
+
+pub read_range : (n : Signature) (rows : List Row) (formulas : List Formula) → is_fit n ≡ true → HasRead n rows (length rows) (tables_in formulas) → list_all (is_table_in (total (sizes_of n.parts)) (length n.props)) (tables_in formulas) ≡ true
+read_range n rows formulas fit h =
+    subst (λ (tables : List (List Kind)). list_all (is_table_in (total (sizes_of n.parts)) (length n.props)) tables ≡ true) (sym h.same) (tables_in_range n h.formulas fit)
+
+-- all steps of a file
+pub ruleset file_steps = (read_accepted, read_lacks, read_range)

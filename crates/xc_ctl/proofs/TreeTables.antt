@@ -11,7 +11,7 @@ use Rattle.xc_ctl.proofs.Nodes.{size_some, nodes_length}
 ordered_append : (k : ℕ) (xs ys : List Kind) → are_ordered_from k xs ≡ true → are_ordered_from (k + length xs) ys ≡ true → are_ordered_from k (xs ++ ys) ≡ true
 ordered_append k [] ys h e = let same : k + 0 ≡ k = omega arith in subst (λ (m : ℕ). are_ordered_from m ys ≡ true) same e
 ordered_append k (x ∷ xs) ys h e =
-    let p = and_parts _ _ h in
+    let p = and_parts (has_children_below k x) (are_ordered_from (suc k) xs) h in
     let same : k + suc (length xs) ≡ suc k + length xs = omega arith in
     and_from _ _ p.0 (ordered_append (suc k) xs ys p.1 (subst (λ (m : ℕ). are_ordered_from m ys ≡ true) same e))
 

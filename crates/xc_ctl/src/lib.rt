@@ -14,6 +14,7 @@ mod reader;
 mod resolver;
 mod rows;
 mod tree;
+mod verdict;
 mod vocabulary;
 mod words;
 
@@ -21,3 +22,4 @@ pub use formula::{Formula, Formulas};
 pub use kind::Kind;
 pub use laws::{formulas_are_read, formulas_have_one_denotation};
 pub use reader::read_formulas;
+pub use verdict::files_have_one_reading;
