@@ -23,3 +23,6 @@ pub use kind::Kind;
 pub use laws::{formulas_are_read, formulas_have_one_denotation};
 pub use reader::read_formulas;
 pub use verdict::files_have_one_reading;
+
+#[cfg(test)]
+mod tests;
