@@ -1,0 +1,58 @@
+-- The values of transitions and propositions, as the code comes to them. No public clause rests on these words.
+use Rattle.std.specs.Prelude.{◌≡◌, ◌<◌, ℕ, Bool, true, ◌&&◌, List, [], length, map, filter}
+use Rattle.std.specs.List.{list_all, slice_index_or}
+use Rattle.std.specs.Str.{bytes_eq}
+use Rattle.xc_theory.specs.Codes.{AreDigits}
+use Rattle.xc_alg.specs.Operations.{Operations}
+use Rattle.xc_alg.specs.Bounds.{joined}
+use Rattle.xc_base.specs.Names.{place_of}
+use Rattle.xc_expr.specs.Variables.{sizes_of}
+use Rattle.xc_expr.specs.Tests.{test_of, is_in_range, holds_at}
+use Rattle.xc_expr.specs.Actions.{allows, is_action_in_range}
+use Rattle.xc_expr.specs.declared.domain.Domain.{Domain}
+use Rattle.xc_view.specs.declared.lines.PropLine.{PropLine}
+use Rattle.xc_view.specs.declared.lines.Command.{Command}
+
+-- the guards and the actions of commands, and the guards of lines, speak of the variables
+abbrev pub has_guard_in : List Domain → Command → Bool
+has_guard_in vars c = is_in_range vars (test_of c.guard)
+
+abbrev pub has_action_in : List Domain → Command → Bool
+has_action_in vars c = is_action_in_range vars c.action
+
+abbrev pub has_test_in : List Domain → PropLine → Bool
+has_test_in vars l = is_in_range vars (test_of l.guard)
+
+-- whether a command's guard holds at a row of places
+abbrev pub guards : List ℕ → Command → Bool
+guards from c = holds_at (test_of c.guard) from
+
+-- the element of a command's value, and that of a line's
+abbrev pub command_code : List (List ℕ) → Command → ℕ
+command_code names c = place_of names c.value
+
+abbrev pub line_code : List (List ℕ) → PropLine → ℕ
+line_code names l = place_of names l.value
+
+-- whether a command leads from some places to others, and whether a line of that proposition holds at some places
+abbrev pub leads_to : List ℕ → List ℕ → List ℕ → Command → Bool
+leads_to sizes from to c = guards from c && allows sizes c.action from to
+
+abbrev pub tells_of : List ℕ → List ℕ → PropLine → Bool
+tells_of name from l = bytes_eq name l.name && holds_at (test_of l.guard) from
+
+-- the codes of the items that a test picks
+unfoldable pub picked : {X : Type 0} → (X → ℕ) → (X → Bool) → List X → List ℕ
+picked code test items = map code (filter test items)
+
+-- the least upper bound of the elements of the commands that lead from some places to others
+abbrev pub step_code : Operations → List Domain → List (List ℕ) → List Command → List ℕ → List ℕ → ℕ
+step_code o vars names commands from to = joined o (picked (command_code names) (leads_to (sizes_of vars) from to) commands)
+
+-- that of the elements of the lines that tell of a proposition at some places
+abbrev pub prop_code : Operations → List (List ℕ) → List PropLine → List ℕ → List ℕ → ℕ
+prop_code o names lines name from = joined o (picked (line_code names) (tells_of name from) lines)
+
+-- rows of places, one for each variable
+pub record AreStates (sizes : List ℕ) (places : List (List ℕ)) : Type 0 where
+  pub digits : (i : ℕ) → i < length places → AreDigits sizes (slice_index_or places i [])
