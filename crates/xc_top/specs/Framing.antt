@@ -1,8 +1,10 @@
 -- The values of transitions and propositions, as the code comes to them. No public clause rests on these words.
-use Rattle.std.specs.Prelude.{◌≡◌, ◌<◌, ℕ, Bool, true, ◌&&◌, List, [], length, map, filter}
+use Rattle.std.specs.Prelude.{◌≡◌, ◌<◌, ◌≤◌, ℕ, Bool, true, ◌&&◌, List, [], length, map, filter}
 use Rattle.std.specs.List.{list_all, slice_index_or}
 use Rattle.std.specs.Str.{bytes_eq}
 use Rattle.xc_theory.specs.Codes.{AreDigits}
+use Rattle.xc_theory.specs.Lattices.{IsLawful, size}
+use Rattle.xc_lattice.specs.LatticeFiles.{LatticeValue}
 use Rattle.xc_alg.specs.Operations.{Operations}
 use Rattle.xc_alg.specs.Bounds.{joined}
 use Rattle.xc_base.specs.Names.{place_of}
@@ -56,3 +58,10 @@ prop_code o names lines name from = joined o (picked (line_code names) (tells_of
 -- rows of places, one for each variable
 pub record AreStates (sizes : List ℕ) (places : List (List ℕ)) : Type 0 where
   pub digits : (i : ℕ) → i < length places → AreDigits sizes (slice_index_or places i [])
+
+-- a lattice that is lawful, with 2 to 64 elements and a name for each
+pub record IsFit (l : LatticeValue) : Type 0 where
+  pub lawful : IsLawful l.algebra
+  pub named : length l.names ≡ size l.algebra
+  pub some : 2 ≤ size l.algebra
+  pub few : size l.algebra ≤ 64
