@@ -15,6 +15,7 @@ use Rattle.xc_alg.specs.Tables.{entry}
 use Rattle.xc_alg.proofs.Tables.{product_size}
 use Rattle.xc_base.specs.Names.{is_among, place_of, name_at}
 use Rattle.xc_expr.specs.Variables.{sizes_of}
+use Rattle.xc_expr.specs.declared.domain.Domain.{Domain}
 use Rattle.xc_lattice.specs.LatticeFiles.{LatticeValue}
 use Rattle.xc_view.specs.ViewFiles.{ViewValue, PropValue, CommandValue}
 use Rattle.xc_view.specs.Parts.{prop_value, command_value}
@@ -23,7 +24,7 @@ use Rattle.xc_view.specs.declared.lines.PropLine.{PropLine}
 use Rattle.xc_view.specs.declared.lines.Command.{Command}
 use Rattle.xc_top.specs.Checks.{states_of, value_words, unknown_value, prop_names, join_named, frame_of}
 use Rattle.xc_top.specs.Evaluating.{IsRow, AreRows}
-use Rattle.xc_top.specs.Framing.{IsFit, AreStates, command_code, line_code, leads_to, tells_of, picked, step_code, prop_code}
+use Rattle.xc_top.specs.Framing.{IsFit, AreStates, command_code, line_code, leads_to, tells_of, picked, step_code, prop_code, AreSteps, AreProps}
 use Rattle.xc_top.proofs.Joining.{joined_is_bound, picked_are, known_are, left_known, all_known}
 
 -- a list that passes is two lists that do
@@ -137,3 +138,28 @@ props_are v l parts lines names places rows p s fit one known is same e made low
     ∙ ap (λ (x : List ℕ). prop_code (product parts) l.names lines (name_at (prop_names v) p) x) (place_is v places s e here)
     ∙ ap (λ (ps : List LatticeData). prop_code (product ps) l.names lines (name_at (prop_names v) p) (row_at v s)) one
     ∙ prop_is v l lines (name_at (prop_names v) p) s fit known is
+
+-- the rows that the code makes, with what it reads of the view and the lattice
+pub are_steps : (v : ViewValue) (l : LatticeValue) (parts : List LatticeData) (vars : List Domain) (names : List (List ℕ)) (commands : List Command) (places rows : List (List ℕ)) → IsFit l → parts ≡ l.algebra ∷ [] → unknown_value v l ≡ None → vars ≡ v.vars → names ≡ l.names
+    → map command_value commands ≡ v.commands → places ≡ map (row_at v) (range_with_len 0 (states_of v)) → AreRows (product parts).size (length places) rows → rows ≡ map (λ from. map (step_code (product parts) vars names commands from) places) places → AreSteps v l (product parts).size rows
+are_steps v l parts vars names commands places rows fit one known same_vars same_names is e shape made =
+    let now : rows ≡ map (λ from. map (step_code (product parts) v.vars l.names commands from) places) places =
+    made ∙ ap (λ (xs : List Domain). map (λ from. map (step_code (product parts) xs names commands from) places) places) same_vars
+    ∙ ap (λ (ns : List (List ℕ)). map (λ from. map (step_code (product parts) v.vars ns commands from) places) places) same_names in
+    let count = places_count v places e in
+    record {
+      count = ap length made ∙ length-map places (λ from. map (step_code (product parts) vars names commands from) places) ∙ count;
+      rows_are = subst (λ (n : ℕ). AreRows (product parts).size n rows) count shape;
+      values = λ s t low there. steps_are v l parts commands places rows s t fit one known is e now low there;
+    }
+
+pub are_props : (v : ViewValue) (l : LatticeValue) (parts : List LatticeData) (names : List (List ℕ)) (lines : List PropLine) (props places rows : List (List ℕ)) → IsFit l → parts ≡ l.algebra ∷ [] → unknown_value v l ≡ None → names ≡ l.names
+    → map prop_value lines ≡ v.props → props ≡ prop_names v → places ≡ map (row_at v) (range_with_len 0 (states_of v)) → AreRows (product parts).size (length places) rows → rows ≡ map (λ name. map (prop_code (product parts) names lines name) places) props → AreProps v l (product parts).size rows
+are_props v l parts names lines props places rows fit one known same_names is same e shape made =
+    let now : rows ≡ map (λ name. map (prop_code (product parts) l.names lines name) places) props =
+    made ∙ ap (λ (ns : List (List ℕ)). map (λ name. map (prop_code (product parts) ns lines name) places) props) same_names in
+    record {
+      count = ap length made ∙ length-map props (λ name. map (prop_code (product parts) names lines name) places) ∙ ap length same;
+      rows_are = subst (λ (n : ℕ). AreRows (product parts).size n rows) (places_count v places e) shape;
+      values = λ x s low here. props_are v l parts lines props places rows x s fit one known is same e now low here;
+    }

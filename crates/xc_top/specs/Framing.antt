@@ -12,6 +12,10 @@ use Rattle.xc_expr.specs.Variables.{sizes_of}
 use Rattle.xc_expr.specs.Tests.{test_of, is_in_range, holds_at}
 use Rattle.xc_expr.specs.Actions.{allows, is_action_in_range}
 use Rattle.xc_expr.specs.declared.domain.Domain.{Domain}
+use Rattle.xc_alg.specs.Tables.{entry}
+use Rattle.xc_view.specs.ViewFiles.{ViewValue}
+use Rattle.xc_top.specs.Checks.{states_of, prop_names, frame_of}
+use Rattle.xc_top.specs.Evaluating.{AreRows}
 use Rattle.xc_view.specs.declared.lines.PropLine.{PropLine}
 use Rattle.xc_view.specs.declared.lines.Command.{Command}
 
@@ -65,3 +69,15 @@ pub record IsFit (l : LatticeValue) : Type 0 where
   pub named : length l.names ≡ size l.algebra
   pub some : 2 ≤ size l.algebra
   pub few : size l.algebra ≤ 64
+
+-- rows of the transitions of the frame of a view
+pub record AreSteps (v : ViewValue) (l : LatticeValue) (size : ℕ) (rows : List (List ℕ)) : Type 0 where
+  pub count : length rows ≡ states_of v
+  pub rows_are : AreRows size (states_of v) rows
+  pub values : (s t : ℕ) → s < states_of v → t < states_of v → entry rows s t ≡ (frame_of v l).relation s t
+
+-- rows of its propositions
+pub record AreProps (v : ViewValue) (l : LatticeValue) (size : ℕ) (rows : List (List ℕ)) : Type 0 where
+  pub count : length rows ≡ length (prop_names v)
+  pub rows_are : AreRows size (states_of v) rows
+  pub values : (p s : ℕ) → p < length (prop_names v) → s < states_of v → entry rows p s ≡ (frame_of v l).prop p s
