@@ -1,7 +1,8 @@
 -- Denotations over a frame that is told by rows are those over the frame that the rows are of.
-use Rattle.std.proofs.Common.{◌≡◌, ℕ, zero, suc, ◌+◌, ◌-◌, ◌<◌, ◌≤◌, Bool, true, List, [], ◌∷◌, ◌++◌, length, map, get_or, refl, sym, ◌∙◌, ap, subst, arith}
+use Rattle.std.proofs.Common.{◌≡◌, ℕ, zero, suc, ◌+◌, ◌-◌, ◌<◌, ◌≤◌, Bool, true, List, [], ◌∷◌, ◌++◌, length, map, take, get_or, slice_index, refl, sym, ◌∙◌, ap, subst, arith}
 use Rattle.std.specs.List.{list_all, range_with_len}
 use Rattle.std.proofs.lemmas.Bool.{and_parts, ltb-true}
+use Rattle.std.proofs.lemmas.List.{get_or-map, length-map, map-append, take_more}
 use Rattle.std.proofs.lemmas.List.Sums.{AllPass-from_list_all}
 use Rattle.xc_theory.specs.Lattices.{LatticeData}
 use Rattle.xc_alg.specs.Products.{product, join_codes}
@@ -67,3 +68,22 @@ denoted_more frame [] [] nodes f none is = next nodes f [] [] is none
 denoted_more frame [] (g ∷ fs) nodes f a is = elim a [ ]
 denoted_more frame (some ∷ tables) [] nodes f a is = elim a [ ]
 denoted_more frame (some ∷ tables) (g ∷ fs) nodes f (next _ _ _ _ a more) is = next some g (tables ++ nodes ∷ []) (fs ++ f ∷ []) a (denoted_more frame tables fs nodes f more is)
+
+-- the first of no formulas
+pub denoted_none : (frame : Frame) (rows : List (List ℕ)) → rows ≡ [] → AreDenoted frame [] (map slice_index rows)
+denoted_none frame rows e = rw e none
+
+-- what all pass that a function makes of a list passes what it makes of one that is read
+pub passes_made : {X Y : Type 0} (p : Y → Bool) (f : X → Y) (xs : List X) (i : ℕ) (x : X) (y : Y) → list_all p (map f xs) ≡ true → i < length xs → x ≡ get_or xs i x → y ≡ f x → p y ≡ true
+passes_made p f xs i x y h low is e =
+    rw (e ∙ ap f is ∙ sym (get_or-map f xs i x (f x) low)) (AllPass-from_list_all p (map f xs) h i (f x) (omega (arith, length-map xs f)))
+
+-- the formulas up to one, with what is pushed for it
+pub denoted_pushed : {X : Type 0} (frame : Frame) (nodes_of : X → List Kind) (formulas : List X) (rows new : List (List ℕ)) (i : ℕ) (x : X) (nodes : List Kind) (row : List ℕ) → i < length formulas → x ≡ get_or formulas i x → nodes ≡ nodes_of x
+    → AreDenoted frame (map nodes_of (take i formulas)) (map slice_index rows) → IsDenoted frame nodes (slice_index row) → new ≡ rows ++ row ∷ [] → AreDenoted frame (map nodes_of (take (i + 1) formulas)) (map slice_index new)
+denoted_pushed frame nodes_of formulas rows new i x nodes row low is same are one e =
+    let tables : map nodes_of (take (i + 1) formulas) ≡ map nodes_of (take i formulas) ++ nodes ∷ [] =
+    ap (map nodes_of) (take_more formulas i x low) ∙ map-append nodes_of (take i formulas) (get_or formulas i x ∷ [])
+    ∙ ap (λ (last : List Kind). map nodes_of (take i formulas) ++ last ∷ []) (ap nodes_of (sym is) ∙ sym same) in
+    let functions : map slice_index new ≡ map slice_index rows ++ slice_index row ∷ [] = ap (map slice_index) e ∙ map-append slice_index rows (row ∷ []) in
+    rw (tables, functions) (denoted_more frame (map nodes_of (take i formulas)) (map slice_index rows) nodes (slice_index row) are one)

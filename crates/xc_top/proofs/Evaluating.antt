@@ -147,3 +147,6 @@ values_more frame nodes rows read new row i ordered values count low same is e g
 -- where each node has a row, the rows are denotations
 pub are_denoted : (frame : Frame) (nodes : List Kind) (rows : List (List ℕ)) → AreValues frame nodes rows → length rows ≡ length nodes → AreDenotations frame nodes (entry rows)
 are_denoted frame nodes rows values count = record { node = λ i within. values.node i (omega arith) within }
+
+pub rows_pushed : (size n : ℕ) (rows new : List (List ℕ)) (row : List ℕ) → AreRows size n rows → IsRow size n row → new ≡ rows ++ row ∷ [] → AreRows size n new
+rows_pushed size n rows new row are is e = rw e (rows_more size n rows row are is)
