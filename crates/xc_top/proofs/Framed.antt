@@ -22,9 +22,12 @@ use Rattle.xc_view.specs.Parts.{prop_value, command_value}
 use Rattle.xc_view.specs.Meaning.{row_at, leads, step_words, tells, prop_words}
 use Rattle.xc_view.specs.declared.lines.PropLine.{PropLine}
 use Rattle.xc_view.specs.declared.lines.Command.{Command}
-use Rattle.xc_top.specs.Checks.{states_of, value_words, unknown_value, prop_names, join_named, frame_of}
-use Rattle.xc_top.specs.Evaluating.{IsRow, AreRows}
+use Rattle.xc_top.specs.Checks.{states_of, value_words, unknown_value, prop_names, join_named, frame_of, AreDenoted}
+use Rattle.xc_top.specs.Evaluating.{IsRow, AreRows, frame_in}
 use Rattle.xc_top.specs.Framing.{IsFit, AreStates, command_code, line_code, leads_to, tells_of, picked, step_code, prop_code, AreSteps, AreProps}
+use Rattle.xc_ctl.specs.Tables.{is_table_in}
+use Rattle.xc_ctl.specs.declared.kind.Kind.{Kind}
+use Rattle.xc_top.proofs.Carrying.{frame_by, all_denoted_same}
 use Rattle.xc_top.proofs.Joining.{joined_is_bound, picked_are, known_are, left_known, all_known}
 
 -- a list that passes is two lists that do
@@ -78,7 +81,7 @@ line_words : (names : List (List ℕ)) (lines : List PropLine) → map (place_of
 line_words names [] = refl
 line_words names (l ∷ lines) = ap (λ (more : List ℕ). place_of names l.value ∷ more) (line_words names lines)
 
-one_size : (l : LatticeValue) (parts : List LatticeData) → IsFit l → parts ≡ l.algebra ∷ [] → (product parts).size ≡ length l.names
+pub one_size : (l : LatticeValue) (parts : List LatticeData) → IsFit l → parts ≡ l.algebra ∷ [] → (product parts).size ≡ length l.names
 one_size l parts fit e = ap (λ (ps : List LatticeData). (product ps).size) e ∙ product_size l.algebra ∙ sym fit.named
 
 pub size_small : (l : LatticeValue) (parts : List LatticeData) → IsFit l → parts ≡ l.algebra ∷ [] → (product parts).size ≤ 256
@@ -163,3 +166,25 @@ are_props v l parts names lines props places rows fit one known same_names is sa
       rows_are = subst (λ (n : ℕ). AreRows (product parts).size n rows) (places_count v places e) shape;
       values = λ x s low here. props_are v l parts lines props places rows x s fit one known is same e now low here;
     }
+
+-- what formulas denote over the rows of a view they denote over its frame
+pub denoted_over_view : (v : ViewValue) (l : LatticeValue) (parts : List LatticeData) (size : ℕ) (steps props : List (List ℕ)) (tables : List (List Kind)) (functions : List (ℕ → ℕ)) → parts ≡ l.algebra ∷ [] → AreSteps v l size steps → AreProps v l size props
+    → list_all (is_table_in (length l.names) (length (prop_names v))) tables ≡ true → AreDenoted (frame_in parts steps props) tables functions → AreDenoted (frame_of v l) tables functions
+denoted_over_view v l parts size steps props tables functions one a b kinds are =
+    let here : AreDenoted (frame_by (l.algebra ∷ []) (length steps) (entry steps) (length props) (entry props)) tables functions = subst (λ (ps : List LatticeData). AreDenoted (frame_by ps (length steps) (entry steps) (length props) (entry props)) tables functions) one are in
+    let counted : AreDenoted (frame_by (l.algebra ∷ []) (states_of v) (entry steps) (length props) (entry props)) tables functions = subst (λ (n : ℕ). AreDenoted (frame_by (l.algebra ∷ []) n (entry steps) (length props) (entry props)) tables functions) a.count here in
+    let named : AreDenoted (frame_by (l.algebra ∷ []) (states_of v) (entry steps) (length (prop_names v)) (entry props)) tables functions = subst (λ (k : ℕ). AreDenoted (frame_by (l.algebra ∷ []) (states_of v) (entry steps) k (entry props)) tables functions) b.count counted in
+    all_denoted_same (l.algebra ∷ []) (states_of v) (length (prop_names v)) (entry steps) (frame_of v l).relation (entry props) (frame_of v l).prop a.values b.values (length l.names) tables functions kinds named
+
+-- the same of what is read of the rows
+pub kinds_same : (size names k m : ℕ) (tables others : List (List Kind)) → size ≡ names → k ≡ m → tables ≡ others → list_all (is_table_in names m) others ≡ true → list_all (is_table_in size k) tables ≡ true
+kinds_same size names k m tables others a b c h = rw (a, b, c) h
+
+pub rows_same : (size names n m : ℕ) (rows : List (List ℕ)) → size ≡ names → n ≡ m → AreRows size n rows → AreRows names m rows
+rows_same size names n m rows a b h = rw (sym a, sym b) h
+
+pub denoted_read : (parts : List LatticeData) (steps props more others : List (List ℕ)) (tables some : List (List Kind)) (functions : List (ℕ → ℕ)) → more ≡ steps → others ≡ props → some ≡ tables → AreDenoted (frame_in parts more others) some functions → AreDenoted (frame_in parts steps props) tables functions
+denoted_read parts steps props more others tables some functions a b c h =
+    subst (λ (ts : List (List Kind)). AreDenoted (frame_in parts steps props) ts functions) c
+    (subst (λ (ps : List (List ℕ)). AreDenoted (frame_in parts steps ps) some functions) b
+    (subst (λ (ss : List (List ℕ)). AreDenoted (frame_in parts ss others) some functions) a h))

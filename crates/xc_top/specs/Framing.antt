@@ -1,5 +1,5 @@
 -- The values of transitions and propositions, as the code comes to them. No public clause rests on these words.
-use Rattle.std.specs.Prelude.{◌≡◌, ◌<◌, ◌≤◌, ℕ, Bool, true, ◌&&◌, List, [], length, map, filter}
+use Rattle.std.specs.Prelude.{◌≡◌, ◌<◌, ◌≤◌, ℕ, Bool, true, false, ◌&&◌, List, [], length, map, filter}
 use Rattle.std.specs.List.{list_all, slice_index_or}
 use Rattle.std.specs.Str.{bytes_eq}
 use Rattle.xc_theory.specs.Codes.{AreDigits}
@@ -7,7 +7,7 @@ use Rattle.xc_theory.specs.Lattices.{IsLawful, size}
 use Rattle.xc_lattice.specs.LatticeFiles.{LatticeValue}
 use Rattle.xc_alg.specs.Operations.{Operations}
 use Rattle.xc_alg.specs.Bounds.{joined}
-use Rattle.xc_base.specs.Names.{place_of}
+use Rattle.xc_base.specs.Names.{has_twice, place_of}
 use Rattle.xc_expr.specs.Variables.{sizes_of}
 use Rattle.xc_expr.specs.Tests.{test_of, is_in_range, holds_at}
 use Rattle.xc_expr.specs.Actions.{allows, is_action_in_range}
@@ -63,10 +63,11 @@ prop_code o names lines name from = joined o (picked (line_code names) (tells_of
 pub record AreStates (sizes : List ℕ) (places : List (List ℕ)) : Type 0 where
   pub digits : (i : ℕ) → i < length places → AreDigits sizes (slice_index_or places i [])
 
--- a lattice that is lawful, with 2 to 64 elements and a name for each
+-- a lattice that is lawful, with 2 to 64 elements and a name of its own for each
 pub record IsFit (l : LatticeValue) : Type 0 where
   pub lawful : IsLawful l.algebra
   pub named : length l.names ≡ size l.algebra
+  pub different : has_twice l.names ≡ false
   pub some : 2 ≤ size l.algebra
   pub few : size l.algebra ≤ 64
 

@@ -1,6 +1,6 @@
 //! The frame of a view over its lattice.
 
-ghost use Rattle.std.specs.Prelude.{◌≡◌, None, [], ◌∷◌, map, IfOk};
+ghost use Rattle.std.specs.Prelude.{◌≡◌, None, [], ◌∷◌, length, map, IfOk};
 ghost use Rattle.std.specs.List.{range_with_len};
 ghost use Rattle.xc_alg.specs.Products.{product};
 ghost use Rattle.xc_lattice.specs.Values.{value_of as lattice_of};
@@ -17,17 +17,19 @@ use xc_base::{Bytes, List, Memory};
 use xc_lattice::Lattice;
 use xc_view::View;
 
-/// A lattice has 2 to 64 elements, each with a name, and the laws of a lattice with an involution hold of it.
+/// A lattice has 2 to 64 elements, each with a name of its own, and the laws of a lattice with an involution hold of it.
 pub(crate) fn is_fit(lattice: &Lattice)
     ensures { IsFit (lattice_of lattice.now) }
 {
     lattice.laws_hold();
     let _size = lattice.size();
+    let _names = lattice.names();
 }
 
 /// The places of the variables of a view at all states.
 pub(crate) fn states(alloc: Global, view: &View) -> Result<List<Bytes>, Memory>
-    ensures { IfOk result (λ rows. rows ≡ map (row_at (view_of view.now)) (range_with_len 0 (states_of (view_of view.now)))) }
+    ensures rows { IfOk result (λ rows. rows ≡ map (row_at (view_of view.now)) (range_with_len 0 (states_of (view_of view.now)))) }
+    ensures count { IfOk result (λ rows. length rows ≡ states_of (view_of view.now)) }
 {
     view.is_sound();
     let rows = places(alloc, view.vars())?;
