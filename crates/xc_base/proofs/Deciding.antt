@@ -119,7 +119,7 @@ module _ {S V : Type 0} (format : Format S V) (decide : List S → List (List �
   ready_err before row f true y h = subst (HasFault format before row) (err_same h) (not_yet y)
   ready_err before row f false y h = judged_err before row f (decide before row.tokens) y refl h
 
-  line_sound : (before : List S) (row : Row) (s : S) → line_of format decide before row ≡ Ok s → IsFaultless format before row.tokens s
+  pub line_sound : (before : List S) (row : Row) (s : S) → line_of format decide before row ≡ Ok s → IsFaultless format before row.tokens s
   unfolding line_of
   line_sound before row s h = ready_ok before row s (format.unready row.tokens) refl h
 

@@ -46,19 +46,21 @@ total_below (d ∷ vars) (suc place) h =
     let up = scaled (length d.values) (total (sizes_of vars)) some in
     omega (arith, more, up)
 
-pub totals_fit : (vars : List Domain) (place : ℕ) → are_fit vars ≡ true → total (sizes_of (drop place vars)) ≤ state_limit
-totals_fit vars place h =
-    let both = and_parts _ _ h in
-    let domains = (and_parts _ _ both.0).1 in
-    let below = total_below vars place domains in
-    let limit = leb-true (total (sizes_of vars)) state_limit both.1 in
-    omega (arith, below, limit)
+totals_fit : (vars : List Domain) (place : ℕ) → list_all is_domain vars ≡ true → total (sizes_of vars) ≤ state_limit → total (sizes_of (drop place vars)) ≤ state_limit
+totals_fit vars place domains few = let below = total_below vars place domains in omega (arith, below, few)
 
 -- the number of values of a variable
-pub values_few : (vars : List Domain) (place : ℕ) (d : Domain) → are_fit vars ≡ true → place < length vars → length (get_or vars place d).values ≤ 16
-values_few vars place d h low =
-    let is = AllPass-from_list_all is_domain vars (and_parts _ _ (and_parts _ _ h).0).1 place d low in
+pub values_few : (vars : List Domain) (place : ℕ) (d : Domain) → list_all is_domain vars ≡ true → place < length vars → length (get_or vars place d).values ≤ 16
+values_few vars place d domains low =
+    let is = AllPass-from_list_all is_domain vars domains place d low in
     leb-true (length (get_or vars place d).values) 16 (and_parts _ _ (and_parts _ _ is).0).1
+
+-- what fit variables are
+pub fit_domains : (vars : List Domain) → are_fit vars ≡ true → list_all is_domain vars ≡ true
+fit_domains vars h = (and_parts _ _ (and_parts _ _ h).0).1
+
+pub fit_states : (vars : List Domain) → are_fit vars ≡ true → total (sizes_of vars) ≤ state_limit
+fit_states vars h = leb-true (total (sizes_of vars)) state_limit (and_parts _ _ h).1
 
 -- one turn of the loop
 pub stepped : (vars : List Domain) (place count : ℕ) (d : Domain) → 0 < place → place ≤ length vars → count ≡ total (sizes_of (drop place vars)) → d ≡ get_or vars (place - 1) d → count * length d.values ≡ total (sizes_of (drop (place - 1) vars))
@@ -69,8 +71,8 @@ stepped vars place count d some within is at =
     mul_comm count (length d.values) ∙ ap (λ (n : ℕ). length d.values * n) (is ∙ ap (λ (k : ℕ). total (sizes_of (drop k vars))) (sym back))
     ∙ ap (λ (n : ℕ). n * total (sizes_of (drop (place - 1 + 1) vars))) (sym same) ∙ sym more
 
-pub step_fits : (vars : List Domain) (place count : ℕ) (d : Domain) → are_fit vars ≡ true → 0 < place → place ≤ length vars → count ≡ total (sizes_of (drop place vars)) → d ≡ get_or vars (place - 1) d → count * length d.values < 4294967296
-step_fits vars place count d fit some within is at =
+pub step_fits : (vars : List Domain) (place count : ℕ) (d : Domain) → list_all is_domain vars ≡ true → total (sizes_of vars) ≤ state_limit → 0 < place → place ≤ length vars → count ≡ total (sizes_of (drop place vars)) → d ≡ get_or vars (place - 1) d → count * length d.values < 4294967296
+step_fits vars place count d domains few some within is at =
     let same = stepped vars place count d some within is at in
-    let limit = totals_fit vars (place - 1) fit in
+    let limit = totals_fit vars (place - 1) domains few in
     omega (arith, same, limit)

@@ -40,6 +40,7 @@ pub use phrase::Phrase;
 pub use places::places_of;
 pub use read::{read_action, read_guard};
 pub use setting::Setting;
+pub use words::{is_value_name, is_variable_name};
 
 #[cfg(test)]
 mod action_tests;

@@ -18,14 +18,14 @@ fn is_reserved(text: &[u8]) -> bool
 }
 
 /// Whether a value may have the text as its name.
-pub(crate) fn is_value_name(text: &[u8]) -> bool
+pub fn is_value_name(text: &[u8]) -> bool
     ensures { result ≡ is_value_name text.now }
 {
     is_name_text(text) && !is_reserved(text)
 }
 
 /// Whether a variable may have the text as its name.
-pub(crate) fn is_variable_name(text: &[u8]) -> bool
+pub fn is_variable_name(text: &[u8]) -> bool
     ensures { result ≡ is_variable_name text.now }
 {
     is_value_name(text) && text != b"true".as_slice() && text != b"false".as_slice()

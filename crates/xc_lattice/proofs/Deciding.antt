@@ -2,7 +2,7 @@
 use Rattle.std.proofs.Common.{◌≡◌, ℕ, Bool, true, false, ◌&&◌, List, [], ◌∷◌, Some, None, length, nat_lt, if◌then◌else◌, codes, refl, ◌∙◌, subst, ap}
 use Rattle.std.specs.List.{list_all}
 use Rattle.std.specs.Str.{bytes_eq}
-use Rattle.xc_base.proofs.Naming.{same_bytes, bytes_refl}
+use Rattle.xc_base.proofs.Naming.{same_bytes}
 use Rattle.std.proofs.lemmas.Bool.{and_parts}
 use Rattle.xc_base.specs.Words.{is_name}
 use Rattle.xc_base.specs.Deciding.{Decides}

@@ -1,11 +1,8 @@
 -- Names among names, and the statements that have them, as loops go over them.
-use Rattle.std.proofs.Common.{◌≡◌, ℕ, suc, ◌+◌, ◌<◌, ◌≤◌, Bool, true, false, cond, if◌then◌else◌, not, nat_lt, ◌||◌, List, [], ◌∷◌, ◌++◌, Option, Some, None, unwrap_or, length, get_or, drop, drop-cons, add-one, refl, arith}
-use Rattle.std.specs.List.{list_any, find, position}
+use Rattle.std.proofs.Common.{◌≡◌, ℕ, suc, ◌+◌, ◌<◌, ◌≤◌, Bool, true, false, if◌then◌else◌, not, List, [], ◌∷◌, ◌++◌, Option, Some, None, length, get_or, drop, drop-cons, add-one, refl, arith}
+use Rattle.std.specs.List.{list_any, find}
 use Rattle.std.specs.Str.{bytes_eq}
-use Rattle.std.proofs.lemmas.Bool.{ltb-false, ltb-true}
-use Rattle.std.proofs.lemmas.List.Sums.{prefix_len-le-length}
 use Rattle.xc_lattice.specs.Drafts.{file_name, pairs_of, negated_by}
-use Rattle.xc_base.specs.Names.{place_of, is_among, has_twice}
 use Rattle.xc_lattice.specs.declared.statement.Statement.{Statement}
 use Rattle.xc_lattice.specs.declared.statement.Statement.TheVariants.{Lattice, Elements, Below, Not}
 use Rattle.xc_lattice.specs.LatticeFiles.{element_names, negates, negation_part, missing_part, element_excess}

@@ -1,7 +1,7 @@
 -- What holds of the statements of a whole file, none of which has a fault, and what a reader makes of them.
 -- Words for the steps of the code: public clauses do not rest on them.
 use Rattle.std.specs.Prelude.{◌≡◌, ◌<◌, ◌≤◌, ℕ, true, false, ◌++◌, List, [], ◌∷◌, length, map, Option, Some, None, if◌then◌else◌}
-use Rattle.std.specs.List.{list_any, list_all, position_or_len}
+use Rattle.std.specs.List.{list_any, list_all}
 use Rattle.std.specs.Str.{bytes_eq}
 use Rattle.xc_base.specs.Words.{is_name}
 use Rattle.xc_theory.specs.Lattices.{IsWellShaped, size, below}

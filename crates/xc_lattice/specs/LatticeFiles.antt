@@ -1,6 +1,6 @@
 -- Lattice files: their statements, and what they say.
-use Rattle.std.specs.Prelude.{◌≡◌, ◌<◌, ℕ, Bool, true, false, map, ◌&&◌, ◌||◌, not, nat_lt, nat_le, if◌then◌else◌, List, [], ◌∷◌, length, Contains, find, Option, Some, None, codes}
-use Rattle.std.specs.List.{list_any, list_all, slice_index_or}
+use Rattle.std.specs.Prelude.{◌≡◌, ◌<◌, ℕ, Bool, true, false, map, ◌&&◌, not, nat_lt, nat_le, if◌then◌else◌, List, [], ◌∷◌, length, Contains, find, Option, Some, None, codes}
+use Rattle.std.specs.List.{list_any, list_all}
 use Rattle.std.specs.Str.{bytes_eq}
 use Rattle.xc_theory.specs.Orders.{IsSpannedBy}
 use Rattle.xc_theory.specs.Lattices.{LatticeData, negation}

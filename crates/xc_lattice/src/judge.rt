@@ -58,8 +58,7 @@ fn are_known(before: &[Statement], first: &Word, second: &Word) -> bool
     ensures { result ≡ (is_among (element_names before.now) first.now && is_among (element_names before.now) second.now) }
 {
     let names = element_names(before);
-    is_among(names, first.as_str().as_bytes())
-        && is_among(names, second.as_str().as_bytes())
+    is_among(names, first.as_str().as_bytes()) && is_among(names, second.as_str().as_bytes())
 }
 
 fn is_unknown(before: &[Statement], s: &Statement) -> bool

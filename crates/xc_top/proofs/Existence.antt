@@ -32,7 +32,7 @@ use Rattle.xc_top.specs.Outcomes.ReadsFormulas.{faulty as formulas_faulty, accep
 use Rattle.xc_top.proofs.Courses.{Course}
 use Rattle.xc_top.proofs.Reports.{some_report}
 use Rattle.xc_view.specs.ViewFiles.{ViewValue, view_format}
-use Rattle.xc_view.proofs.Verdicts.{each_view_is_judged}
+use Rattle.xc_view.proofs.Verdicts.{files_are_judged as each_view_is_judged}
 use Rattle.xc_ctl.specs.Tables.{is_table}
 use Rattle.xc_ctl.specs.FormulaFiles.{formula_format}
 use Rattle.xc_ctl.specs.declared.kind.Kind.{Kind}

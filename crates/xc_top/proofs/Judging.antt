@@ -1,11 +1,14 @@
 -- What comes of the rows of a lattice file.
-use Rattle.std.proofs.Common.{◌≡◌, ℕ, List, Result, Ok, Err, ap}
+use Rattle.std.proofs.Common.{◌≡◌, ℕ, List, Result, Ok, Err, ap, subst}
 use Rattle.std.specs.String.{string_bytes}
 use Rattle.xc_base.specs.Formats.{Row}
 use Rattle.xc_base.specs.declared.fault.FileFault.{FileFault}
 use Rattle.xc_lattice.specs.LatticeFiles.{LatticeValue, Faulty, Unlawful, Lawful, IsVerdict}
 use Rattle.xc_lattice.specs.declared.law.Law.{Law}
-use Rattle.xc_base.specs.declared.shelf.File.{File}
+use Rattle.xc_lattice.specs.declared.fault.LatFault.{LatFault}
+use Rattle.xc_lattice.specs.declared.fault.LatFault.TheVariants.{File}
+use Rattle.xc_lattice.specs.Values.{IsFault}
+use Rattle.xc_base.specs.declared.shelf.File.{File as ShelfFile}
 use Rattle.xc_base.specs.Shelves.{Told, Shelved, IsLoaded}
 use Rattle.xc_top.specs.Requests.{LatticeOf}
 use Rattle.xc_top.specs.Texts.{broken_text, file_line}
@@ -16,6 +19,10 @@ use Rattle.xc_top.specs.declared.halt.Halt.{Halt}
 use Rattle.xc_top.specs.declared.halt.Halt.TheVariants.{Words, Refused, ReadFault, WriteFault, Memory}
 use Rattle.xc_top.specs.declared.status.Status.TheVariants.{No}
 use Rattle.xc_top.proofs.Courses.{cut_stops, cut_comes_to, load_halted, load_comes_to}
+
+-- the verdict on a file with a fault
+pub faulty_verdict : (rows : List Row) (e : LatFault) (fault : FileFault) → e ≡ File fault → IsFault rows e → IsVerdict rows (Faulty fault)
+faulty_verdict rows e fault is h = subst (λ (f : LatFault). IsFault rows f) is h
 
 pub judged_no : (name : List ℕ) (rows : List Row) (law : Law) (names : List (List ℕ)) (text : List ℕ) → IsVerdict rows (Unlawful law names) → text ≡ broken_text law names → JudgesLattice name rows (Served No text)
 judged_no name rows law names text judged is = record { verdict = Unlawful law names; judged = judged; comes = ap (Served No) is }
@@ -34,7 +41,7 @@ judged_text name rows v (Err WriteFault) judged text = text
 
 -- the bytes of a lattice file
 module _ (name bytes : List ℕ) where
-  abbrev judging : List Row → (ℕ → List File) → Event → Type 0
+  abbrev judging : List Row → (ℕ → List ShelfFile) → Event → Type 0
   judging rows moments = Ending (JudgesLattice name rows)
 
   judged_all : (rows : List Row) (result : Result Answer Halt) → ComesTo (JudgesLattice name rows) result → Comes (judging rows) result

@@ -24,7 +24,7 @@ use Rattle.xc_top.specs.Outcomes.ReadsFormulas.{faulty as formulas_faulty, accep
 use Rattle.xc_top.specs.declared.status.Status.TheVariants.{Done}
 use Rattle.xc_top.proofs.Courses.{Course}
 use Rattle.xc_top.proofs.Reports.{one_report}
-use Rattle.xc_view.proofs.Verdicts.{views_are_unique, view_faults_are_unique, views_have_no_fault}
+use Rattle.xc_view.proofs.Verdicts.{views_are_unique, accepted_is_faultless as views_have_no_fault}
 use Rattle.xc_ctl.proofs.Verdicts.{accepted_are_tables, tables_are_unique, formula_faults_are_unique, formulas_have_no_fault}
 
 -- what may happen has one end at most

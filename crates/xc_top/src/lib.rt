@@ -19,4 +19,6 @@ pub use program::run;
 pub use status::Status;
 
 #[cfg(test)]
+mod check_tests;
+#[cfg(test)]
 mod tests;

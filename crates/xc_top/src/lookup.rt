@@ -36,16 +36,19 @@ fn in_commands<'a>(names: &[Word], commands: &'a [Command]) -> Option<&'a Word>
 }
 
 /// The first value of a view's propositions, then of its commands, that is no element of the lattice.
-#[tactic(auto, using(crate::proofs::LookingUp::unknown_is))]
+#[tactic(auto, using(crate::proofs::LookingUp::unknown_in_props, crate::proofs::LookingUp::unknown_in_commands))]
 pub(crate) fn unknown<'a>(view: &'a View, lattice: &Lattice) -> Option<&'a Word>
     ensures { option_copied result ≡ unknown_value (view_of view.now) (lattice_of lattice.now) }
 {
     let names = lattice.names().as_slice();
-    in_props(names, view.props().as_slice())
-        .or(in_commands(names, view.commands().as_slice()))
+    match in_props(names, view.props().as_slice()) {
+        Some(word) => Some(word),
+        None => in_commands(names, view.commands().as_slice()),
+    }
 }
 
 /// How many states a view has.
+#[tactic(auto, using(crate::proofs::LookingUp::sound_domains, crate::proofs::LookingUp::sound_states))]
 pub(crate) fn count(view: &View) -> u32
     ensures { result ≡ states_of (view_of view.now) }
 {

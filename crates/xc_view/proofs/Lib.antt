@@ -1,0 +1,12 @@
+pub mod Tokens
+pub mod Commands
+pub mod Stated
+pub mod Sizes
+pub mod Fair
+pub mod Reading
+pub mod Expressions
+pub mod Deciding
+pub mod Gathering
+pub mod Sound
+pub mod Gathered
+pub mod Verdicts

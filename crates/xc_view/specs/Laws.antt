@@ -1,5 +1,5 @@
 -- What follows from the definitions, as statements that a public function carries.
-use Rattle.std.specs.Prelude.{◌≡◌, ℕ, List, ◌⊎◌}
+use Rattle.std.specs.Prelude.{◌≡◌, List, ◌⊎◌}
 use Rattle.xc_base.specs.declared.fault.FileFault.{FileFault}
 use Rattle.xc_base.specs.Formats.{Row, IsAccepted, IsFirstFault}
 use Rattle.xc_view.specs.ViewFiles.{ViewValue, view_format}

@@ -4,3 +4,6 @@ pub mod Views
 pub mod Meaning
 pub mod Deciding
 pub mod Laws
+pub mod Statements
+pub mod Drafts
+pub mod Drafted

@@ -1,5 +1,5 @@
 -- What lines and commands of the code are, and what holds of each view.
-use Rattle.std.specs.Prelude.{◌≡◌, ℕ, Bool, true, ◌&&◌, not, nat_le, List, length, map}
+use Rattle.std.specs.Prelude.{Bool, ◌&&◌, not, nat_le, length, map}
 use Rattle.std.specs.List.{list_all}
 use Rattle.xc_base.specs.Names.{has_twice}
 use Rattle.xc_base.specs.Words.{is_name, is_file_word}

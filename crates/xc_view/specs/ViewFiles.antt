@@ -1,5 +1,5 @@
 -- Viewpoint files: their statements, and what they say.
-use Rattle.std.specs.Prelude.{◌≡◌, ℕ, ◌+◌, Bool, true, false, map, ◌&&◌, ◌||◌, not, nat_lt, nat_le, if◌then◌else◌, List, [], ◌∷◌, ◌++◌, length, Option, Some, None, unwrap_or, codes}
+use Rattle.std.specs.Prelude.{◌≡◌, ℕ, ◌+◌, Bool, true, false, ◌&&◌, ◌||◌, not, nat_lt, nat_le, if◌then◌else◌, List, [], ◌∷◌, ◌++◌, length, Option, Some, None, unwrap_or, codes}
 use Rattle.std.specs.List.{list_any, list_all}
 use Rattle.std.specs.Option.{is_none}
 use Rattle.xc_theory.specs.Codes.{total}
@@ -33,8 +33,8 @@ pub data IsStated : List (List ℕ) → Statement → Type 0 where
   init : (tokens : List (List ℕ)) (guard : Written) → IsGuard tokens guard → IsStated (codes "init" ∷ tokens) (Init guard)
   prop : (name value : List ℕ) (tokens : List (List ℕ)) (guard : Written) → is_name name ≡ true → is_name value ≡ true → IsGuard tokens guard → IsStated (codes "prop" ∷ name ∷ value ∷ codes "when" ∷ tokens) (Prop name value guard)
   command : (name value : List ℕ) (tokens more : List (List ℕ)) (guard : Written) (action : List Assigned)
-    → is_name name ≡ true → is_name value ≡ true → IsGuard tokens guard → IsAction more action
-    → IsStated (codes "command" ∷ name ∷ codes "with" ∷ value ∷ codes "when" ∷ tokens ++ codes "do" ∷ more) (Command name value guard action)
+      → is_name name ≡ true → is_name value ≡ true → IsGuard tokens guard → IsAction more action
+      → IsStated (codes "command" ∷ name ∷ codes "with" ∷ value ∷ codes "when" ∷ tokens ++ codes "do" ∷ more) (Command name value guard action)
 
 -- the variables of the statements, in order
 abbrev pub vars_of : List Statement → List Domain

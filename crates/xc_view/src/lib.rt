@@ -1,10 +1,23 @@
 //! Viewpoint files: guarded commands and propositions, with values of a lattice that is named and not looked up.
 #![tactic(auto)]
 
+mod decide;
+mod draft;
+mod due;
+mod gather;
+mod judge;
+mod limits;
 mod lines;
 mod reader;
+mod rows;
+mod statement;
+mod verdict;
 mod view;
 
 pub use lines::{Command, PropLine};
 pub use reader::read;
+pub use verdict::{ViewFiles, files_have_one_view};
 pub use view::View;
+
+#[cfg(test)]
+mod tests;

@@ -24,6 +24,29 @@ pub struct View {
 impl View {
     ghost use Rattle.xc_view.specs.Views.{value_of};
 
+    /// The view of these parts.
+    pub(crate) fn of(
+        name: Word,
+        lattice: Word,
+        vars: Vars,
+        init: Guard,
+        props: List<PropLine>,
+        commands: List<Command>,
+    ) -> View
+        requires { is_sound (record { name = name; lattice = lattice; vars = vars; init = test_of init; props = map prop_value props; commands = map command_value commands }) ≡ true }
+        ensures { value_of result
+            ≡ record { name = name; lattice = lattice; vars = vars; init = test_of init; props = map prop_value props; commands = map command_value commands } }
+    {
+        View {
+            name,
+            lattice,
+            vars,
+            init,
+            props,
+            commands,
+        }
+    }
+
     /// The view's name.
     pub fn name(&self) -> &Word
         ensures { result.now ≡ (value_of self.now).name }

@@ -1,0 +1,47 @@
+-- The steps of a reader of viewpoint files.
+use Rattle.std.proofs.Common.{◌≡◌, ℕ, ◌+◌, ◌<◌, ◌≤◌, length, drop, List, [], ◌∷◌, ◌++◌, Result, Ok, Err, sym, ◌∙◌, ap}
+use Rattle.std.proofs.lemmas.List.{drop_all}
+use Rattle.xc_base.specs.declared.fault.FileFault.{FileFault}
+use Rattle.xc_base.specs.declared.fault.Stop.{Stop}
+use Rattle.xc_base.specs.declared.fault.Stop.TheVariants.{File, Memory}
+use Rattle.xc_base.specs.Formats.{Row}
+use Rattle.xc_base.specs.Deciding.{Gives, line_of, statements_of}
+use Rattle.xc_base.specs.Lines.{row_at}
+use Rattle.xc_base.proofs.Rows.{row_first}
+use Rattle.xc_base.proofs.Deciding.{statements_of-end, statements_of-next, statements_of-stops, line_sound}
+use Rattle.xc_view.specs.Statements.{stated}
+use Rattle.xc_view.specs.Drafts.{all_stated, IsFair}
+use Rattle.xc_view.specs.declared.statement.Statement as code
+use Rattle.xc_view.proofs.Stated.{stated_with}
+use Rattle.xc_view.proofs.Fair.{next_is_fair}
+use Rattle.xc_view.proofs.Deciding.{decides}
+use Rattle.xc_view.specs.ViewFiles.{Statement, view_format}
+use Rattle.xc_view.specs.Deciding.{decide}
+
+-- a row that is read gives one more fair statement
+pub row_is_fair : (before : List Statement) (row : Row) (s : Statement) → IsFair before → line_of view_format decide before row ≡ Ok s → IsFair (before ++ s ∷ [])
+row_is_fair before row s h e = next_is_fair before row.tokens s h (line_sound view_format decide decides before row s e)
+
+-- the rest of the rows, from a place that is read on, is what it was before
+rest_after : (before : List Statement) (rows : List Row) (i : ℕ) (s : Statement) → i < length rows → line_of view_format decide before (row_at rows i) ≡ Ok s
+    → statements_of view_format decide (before ++ s ∷ []) (drop (i + 1) rows) ≡ statements_of view_format decide before (drop i rows)
+rest_after before rows i s within h =
+    sym (ap (statements_of view_format decide before) (row_first rows i within) ∙ statements_of-next view_format decide before (row_at rows i) (drop (i + 1) rows) s h)
+
+-- the same, as the statements of the code are seen
+pub row_after : (ss all : List code.Statement) (s : code.Statement) (rows : List Row) (i : ℕ) → all ≡ ss ++ s ∷ [] → i < length rows → line_of view_format decide (all_stated ss) (row_at rows i) ≡ Ok (stated s)
+    → statements_of view_format decide (all_stated all) (drop (i + 1) rows) ≡ statements_of view_format decide (all_stated ss) (drop i rows)
+row_after ss all s rows i together within h =
+    ap (λ (ts : List Statement). statements_of view_format decide ts (drop (i + 1) rows)) (stated_with ss all s together)
+    ∙ rest_after (all_stated ss) rows i (stated s) within h
+
+-- the fault at a place is that of the rest
+pub stops_at : (before : List Statement) (rows : List Row) (i : ℕ) (stop : Stop) (all : Result (List Statement) FileFault)
+    → statements_of view_format decide before (drop i rows) ≡ all → i < length rows → Gives {T = Statement} (Err stop) (line_of view_format decide before (row_at rows i)) → Gives {T = List Statement} (Err stop) all
+stops_at before rows i (File f) all same within h =
+    sym same ∙ ap (statements_of view_format decide before) (row_first rows i within) ∙ statements_of-stops view_format decide before (row_at rows i) (drop (i + 1) rows) f h
+stops_at before rows i Memory all same within h = tt
+
+-- behind the last row all are read
+pub rest_ends : (before : List Statement) (rows : List Row) (i : ℕ) → length rows ≤ i → statements_of view_format decide before (drop i rows) ≡ Ok before
+rest_ends before rows i h = ap (statements_of view_format decide before) (drop_all i rows h) ∙ statements_of-end view_format decide before

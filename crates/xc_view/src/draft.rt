@@ -1,0 +1,65 @@
+ghost use Rattle.std.specs.Prelude.{◌≡◌, ◌++◌, ◌∷◌, [], IfOk, OnOk};
+ghost use Rattle.xc_view.specs.ViewFiles.{vars_of};
+ghost use Rattle.xc_view.specs.Statements.{stated};
+ghost use Rattle.xc_view.specs.Drafts.{all_stated, IsFair};
+
+use crate::statement::Statement;
+use std::alloc::Global;
+use xc_base::{List, Memory, Word};
+use xc_expr::{Domain, Vars};
+
+/// Faultless statements of a file, with their variables.
+#[derive(Debug, Drop)]
+pub(crate) struct Draft<'a> {
+    pub(crate) statements: List<Statement<'a>>,
+    pub(crate) vars: Vars,
+    ghost same: { vars ≡ vars_of (all_stated statements) },
+    ghost fair: { IsFair (all_stated statements) },
+}
+
+fn copy_words(alloc: Global, words: &List<Word>) -> Result<List<Word>, Memory>
+    ensures { IfOk result (λ copies. copies ≡ words.now) }
+{
+    let mut copies = List::new(alloc);
+    for word in words.as_slice() {
+        copies.push(word.copy(alloc)?)?;
+    }
+    Ok(copies)
+}
+
+fn push_var(alloc: Global, vars: &mut Vars, s: &Statement) -> Result<(), Memory>
+    ensures { OnOk result (vars.new ≡ vars.old ++ vars_of (stated s.now ∷ [])) }
+{
+    if let Statement::Var(domain) = s {
+        let name = domain.name.copy(alloc)?;
+        let values = copy_words(alloc, &domain.values)?;
+        vars.push(Domain { name, values })?;
+    }
+    Ok(())
+}
+
+impl<'a> Draft<'a> {
+    /// No statement.
+    pub(crate) fn new(alloc: Global) -> Draft<'a>
+        ensures { result.statements ≡ [] }
+    {
+        Draft {
+            statements: List::new(alloc),
+            vars: List::new(alloc),
+        }
+    }
+
+    /// The statements of the draft and one more.
+    pub(crate) fn with(self, alloc: Global, s: Statement<'a>) -> Result<Draft<'a>, Memory>
+        requires { IsFair (all_stated self.statements ++ stated s ∷ []) }
+        ensures { IfOk result (λ d. d.statements ≡ self.entry.statements ++ s.entry ∷ []) }
+    {
+        let Draft {
+            mut statements,
+            mut vars,
+        } = self;
+        push_var(alloc, &mut vars, &s)?;
+        statements.push(s)?;
+        Ok(Draft { statements, vars })
+    }
+}
