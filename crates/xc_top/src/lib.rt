@@ -3,16 +3,22 @@
 
 mod answer;
 mod check;
+mod check_text;
+mod denote;
+mod evaluate;
+mod frame;
 mod halt;
 mod load;
 mod lookup;
 mod outcome;
 mod prepare;
 mod program;
+mod prop_names;
 mod report;
 mod request;
 mod status;
 mod text;
+mod view_frame;
 
 pub use outcome::requests_have_one_outcome;
 pub use program::run;
