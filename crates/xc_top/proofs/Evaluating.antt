@@ -8,6 +8,7 @@ use Rattle.std.proofs.lemmas.List.{get_or_default, get_or_append_left, get_or_pu
 use Rattle.std.proofs.lemmas.List.FromFn.{get_or-map-range_with_len, map-range_with_len_more}
 use Rattle.std.proofs.lemmas.List.Sums.{AllPass-from_list_all}
 use Rattle.xc_alg.specs.Operations.{IsAlgebra}
+use Rattle.xc_alg.proofs.AlgebraLaws.{meet_commutes, meet_with_bottom, join_commutes, join_with_bottom}
 use Rattle.xc_alg.specs.Products.{product, AreLawful}
 use Rattle.xc_alg.specs.Tables.{entry}
 use Rattle.xc_theory.specs.Lattices.{LatticeData}
@@ -28,6 +29,12 @@ weighed_none o row values k m e = rw e refl
 pub weighed_more : (o : Operations) (row values : List ℕ) (n k m : ℕ) → m ≡ n - (k + 1) → k < n → weighed_from o row values k (n - k) ≡ o.join (o.meet (slice_index row k) (slice_index values k)) (weighed_from o row values (k + 1) m)
 unfolding weighed_from
 weighed_more o row values n k m e h = let same : n - k ≡ suc m = omega arith in rw same refl
+
+-- what the bottom weighs adds nothing
+pub weighs_nothing : (o : Operations) (step value sum : ℕ) → IsAlgebra o → step ≡ o.bottom → value < o.size → sum < o.size → sum ≡ o.join (o.meet step value) sum
+weighs_nothing o step value sum laws e value_in sum_in =
+    let nothing : o.meet step value ≡ o.bottom = ap (λ (x : ℕ). o.meet x value) e ∙ meet_commutes o laws o.bottom value laws.bottom_in_range value_in ∙ meet_with_bottom o laws value value_in in
+    sym (ap (λ (x : ℕ). o.join x sum) nothing ∙ join_commutes o laws o.bottom sum laws.bottom_in_range sum_in ∙ join_with_bottom o laws sum sum_in)
 
 -- a row that a test finds is there, with a code of an element at each state
 pub row_there : (i n : ℕ) → nat_lt i n ≡ true → i < n

@@ -14,6 +14,22 @@ use xc_alg::Algebra;
 use xc_base::{Bytes, List, Memory};
 use xc_ctl::Kind;
 
+/// The join so far with what a state weighs. What no transition leads to weighs nothing.
+fn with_state<A: Algebra>(algebra: &A, bottom: u16, step: u16, value: u16, sum: u16) -> u16
+    requires bottom { bottom ≡ (product (A.parts algebra.now)).bottom }
+    requires step { step < (product (A.parts algebra.now)).size }
+    requires value { value < (product (A.parts algebra.now)).size }
+    requires sum { sum < (product (A.parts algebra.now)).size }
+    ensures range { result < (product (A.parts algebra.now)).size }
+    ensures value { let o = product (A.parts algebra.now) in result ≡ o.join (o.meet step value) sum }
+{
+    if step == bottom {
+        sum
+    } else {
+        algebra.join(algebra.meet(step, value), sum)
+    }
+}
+
 /// The join over all states of what the transition there weighs.
 #[tactic(auto, using(crate::proofs::Evaluating::weighed_none, crate::proofs::Evaluating::weighed_more))]
 fn some_next<A: Algebra>(algebra: &A, row: &[u8], values: &[u16]) -> u16
@@ -22,9 +38,10 @@ fn some_next<A: Algebra>(algebra: &A, row: &[u8], values: &[u16]) -> u16
     ensures range { result < (product (A.parts algebra.now)).size }
     ensures value { result ≡ weighed_from (product (A.parts algebra.now)) row.now values.now 0 (length row.now) }
 {
-    let mut sum = algebra.bottom();
+    let bottom = algebra.bottom();
+    let mut sum = bottom;
     for t in (0..row.len()).rev() {
-        sum = algebra.join(algebra.meet(u16::from(row[t]), values[t]), sum);
+        sum = with_state(algebra, bottom, u16::from(row[t]), values[t], sum);
     }
     sum
 }

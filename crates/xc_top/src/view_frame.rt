@@ -9,8 +9,11 @@ ghost use Rattle.xc_view.specs.Views.{value_of as view_of};
 ghost use Rattle.xc_top.specs.Checks.{states_of, unknown_value};
 ghost use Rattle.xc_top.specs.Framing.{AreProps, AreSteps, IsFit};
 
-use crate::frame::{command_codes, line_codes, places, prop_rows, step_rows};
+use crate::elements::{command_codes, line_codes};
 use crate::prop_names::prop_names;
+use crate::propositions::prop_rows;
+use crate::states::places;
+use crate::transitions::step_rows;
 use std::alloc::Global;
 use xc_alg::Algebra;
 use xc_base::{Bytes, List, Memory};

@@ -2,7 +2,7 @@ use Rattle.std.proofs.Common.{◌≡◌, length, map, take}
 use Rattle.xc_alg.specs.Products.{product}
 use Rattle.xc_top.specs.Evaluating.{AreRows}
 use Rattle.xc_top.specs.Framing.{prop_code}
-use Rattle.xc_top.proofs.frame.prop_rows.Given as goal
+use Rattle.xc_top.proofs.propositions.prop_rows.Given as goal
 
 abbrev pub invariant-loop-name : goal.invariant-loop-name
 invariant-loop-name g l = record {

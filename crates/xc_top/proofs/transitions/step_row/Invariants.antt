@@ -2,7 +2,7 @@ use Rattle.std.proofs.Common.{◌≡◌, map, take}
 use Rattle.xc_alg.specs.Products.{product}
 use Rattle.xc_top.specs.Evaluating.{IsRow}
 use Rattle.xc_top.specs.Framing.{step_code}
-use Rattle.xc_top.proofs.frame.step_row.Given as goal
+use Rattle.xc_top.proofs.transitions.step_row.Given as goal
 
 abbrev pub invariant-loop-to : goal.invariant-loop-to
 invariant-loop-to g l = record {

@@ -2,7 +2,7 @@ use Rattle.std.proofs.Common.{◌≡◌, map, take}
 use Rattle.xc_alg.specs.Products.{product}
 use Rattle.xc_top.specs.Evaluating.{IsRow}
 use Rattle.xc_top.specs.Framing.{prop_code}
-use Rattle.xc_top.proofs.frame.prop_row.Given as goal
+use Rattle.xc_top.proofs.propositions.prop_row.Given as goal
 
 abbrev pub invariant-loop-from : goal.invariant-loop-from
 invariant-loop-from g l = record {

@@ -2,7 +2,7 @@ use Rattle.std.proofs.Common.{◌≡◌, length, map, take}
 use Rattle.xc_alg.specs.Products.{product}
 use Rattle.xc_top.specs.Evaluating.{AreRows}
 use Rattle.xc_top.specs.Framing.{step_code}
-use Rattle.xc_top.proofs.frame.step_rows.Given as goal
+use Rattle.xc_top.proofs.transitions.step_rows.Given as goal
 
 abbrev pub invariant-loop-from : goal.invariant-loop-from
 invariant-loop-from g l = record {

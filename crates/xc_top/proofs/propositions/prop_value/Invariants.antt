@@ -2,7 +2,7 @@ use Rattle.std.proofs.Common.{◌≡◌, ◌<◌, drop}
 use Rattle.xc_alg.specs.Products.{product}
 use Rattle.xc_alg.specs.Bounds.{joined}
 use Rattle.xc_top.specs.Framing.{line_code, tells_of, picked}
-use Rattle.xc_top.proofs.frame.prop_value.Given as goal
+use Rattle.xc_top.proofs.propositions.prop_value.Given as goal
 
 abbrev pub invariant-loop-i : goal.invariant-loop-i
 invariant-loop-i g l = record {

@@ -2,7 +2,7 @@ use Rattle.std.proofs.Common.{◌∙◌}
 use Rattle.xc_alg.specs.Products.{product}
 use Rattle.xc_top.specs.Framing.{line_code, tells_of}
 use Rattle.xc_top.proofs.Framing.{taken, passed_over, read_of}
-use Rattle.xc_top.proofs.frame.with_line.Goals as goal
+use Rattle.xc_top.proofs.propositions.with_line.Goals as goal
 
 pub returns-then-tells-clause-sum : goal.returns-then-tells-clause-sum
 returns-then-tells-clause-sum g c =

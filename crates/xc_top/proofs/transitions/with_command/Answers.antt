@@ -3,7 +3,7 @@ use Rattle.xc_expr.specs.Variables.{sizes_of}
 use Rattle.xc_alg.specs.Products.{product}
 use Rattle.xc_top.specs.Framing.{command_code, leads_to}
 use Rattle.xc_top.proofs.Framing.{taken, passed_over, read_of}
-use Rattle.xc_top.proofs.frame.with_command.Goals as goal
+use Rattle.xc_top.proofs.transitions.with_command.Goals as goal
 
 pub returns-then-leads-clause-sum : goal.returns-then-leads-clause-sum
 returns-then-leads-clause-sum g c =

@@ -3,7 +3,7 @@ use Rattle.xc_alg.specs.Products.{product}
 use Rattle.xc_alg.specs.Bounds.{joined}
 use Rattle.xc_expr.specs.Variables.{sizes_of}
 use Rattle.xc_top.specs.Framing.{command_code, leads_to, picked}
-use Rattle.xc_top.proofs.frame.transition.Given as goal
+use Rattle.xc_top.proofs.transitions.transition.Given as goal
 
 abbrev pub invariant-loop-i : goal.invariant-loop-i
 invariant-loop-i g l = record {
