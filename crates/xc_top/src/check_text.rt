@@ -60,7 +60,11 @@ fn push_state(
     let number = format!(in alloc; "{state}")?;
     push_both(text, "value ", number.as_str())?;
     push_places(text, view.vars(), row)?;
-    push_both(text, " ", lattice.names().get(usize::from(element)).as_str())?;
+    push_both(
+        text,
+        " ",
+        lattice.names().get(usize::from(element)).as_str(),
+    )?;
     text.push_str("\n")?;
     Ok(())
 }
@@ -104,7 +108,15 @@ fn push_values(
     ensures { OnOk result (string_bytes text.new ≡ string_bytes text.old ++ flat_map (value_text (view_of view.now) (lattice_of lattice.now) (slice_index values.now)) (initials_of (view_of view.now))) }
 {
     for state in 0..places.len() {
-        push_initial(alloc, text, view, lattice, state, places[state].as_slice(), values[state])?;
+        push_initial(
+            alloc,
+            text,
+            view,
+            lattice,
+            state,
+            places[state].as_slice(),
+            values[state],
+        )?;
     }
     Ok(())
 }
@@ -131,7 +143,12 @@ fn push_formula(
 }
 
 /// The line of a view and its lattice.
-fn view_line(alloc: Global, view: &View, lattice: &Lattice, height: u32) -> Result<String, AllocError>
+fn view_line(
+    alloc: Global,
+    view: &View,
+    lattice: &Lattice,
+    height: u32,
+) -> Result<String, AllocError>
     ensures { IfOk result (λ text. string_bytes text ≡ view_text (view_of view.now) (lattice_of lattice.now) height) }
 {
     let states = count(view);
@@ -163,7 +180,15 @@ fn push_formulas(
     ensures { OnOk result (string_bytes text.new ≡ string_bytes text.old ++ formulas_text (view_of view.now) (lattice_of lattice.now) 1 (map slice_index rows.now)) }
 {
     for i in 0..rows.len() {
-        push_formula(alloc, text, view, lattice, places, i + 1, rows[i].as_slice())?;
+        push_formula(
+            alloc,
+            text,
+            view,
+            lattice,
+            places,
+            i + 1,
+            rows[i].as_slice(),
+        )?;
     }
     Ok(())
 }

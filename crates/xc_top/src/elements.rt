@@ -19,7 +19,11 @@ fn element(lattice: &Lattice, word: &Word) -> u8
 }
 
 /// The elements of the values of commands.
-pub(crate) fn command_codes(alloc: Global, lattice: &Lattice, commands: &[Command]) -> Result<Bytes, Memory>
+pub(crate) fn command_codes(
+    alloc: Global,
+    lattice: &Lattice,
+    commands: &[Command],
+) -> Result<Bytes, Memory>
     ensures { IfOk result (λ codes. codes ≡ map (command_code (value_of lattice.now).names) commands.now) }
 {
     let mut codes = List::new(alloc);
@@ -30,7 +34,11 @@ pub(crate) fn command_codes(alloc: Global, lattice: &Lattice, commands: &[Comman
 }
 
 /// The elements of the values of lines.
-pub(crate) fn line_codes(alloc: Global, lattice: &Lattice, lines: &[PropLine]) -> Result<Bytes, Memory>
+pub(crate) fn line_codes(
+    alloc: Global,
+    lattice: &Lattice,
+    lines: &[PropLine],
+) -> Result<Bytes, Memory>
     ensures { IfOk result (λ codes. codes ≡ map (line_code (value_of lattice.now).names) lines.now) }
 {
     let mut codes = List::new(alloc);

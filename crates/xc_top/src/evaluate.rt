@@ -57,7 +57,14 @@ fn code_at(rows: &[List<u16>], row: u16, state: usize) -> u16
 
 /// The value of a child at a state.
 #[tactic(auto, using(crate::proofs::Evaluating::row_there, crate::proofs::Evaluating::state_there, crate::proofs::Evaluating::code_below))]
-fn child_at<A: Algebra>(algebra: &A, steps: &[Bytes], props: &[Bytes], rows: &[List<u16>], child: u16, state: usize) -> u16
+fn child_at<A: Algebra>(
+    algebra: &A,
+    steps: &[Bytes],
+    props: &[Bytes],
+    rows: &[List<u16>],
+    child: u16,
+    state: usize,
+) -> u16
     requires ready { AreReady (product (A.parts algebra.now)).size steps.now props.now rows.now }
     requires child { nat_lt child (length rows.now) ≡ true }
     requires state { state < length steps.now }
@@ -69,7 +76,13 @@ fn child_at<A: Algebra>(algebra: &A, steps: &[Bytes], props: &[Bytes], rows: &[L
 
 /// The value of a proposition at a state.
 #[tactic(auto, using(crate::proofs::Evaluating::row_there, crate::proofs::Evaluating::state_there, crate::proofs::Evaluating::code_below))]
-fn prop_at<A: Algebra>(algebra: &A, steps: &[Bytes], props: &[Bytes], prop: u16, state: usize) -> u16
+fn prop_at<A: Algebra>(
+    algebra: &A,
+    steps: &[Bytes],
+    props: &[Bytes],
+    prop: u16,
+    state: usize,
+) -> u16
     requires props { AreRows (product (A.parts algebra.now)).size (length steps.now) props.now }
     requires prop { nat_lt prop (length props.now) ≡ true }
     requires state { state < length steps.now }
@@ -81,18 +94,36 @@ fn prop_at<A: Algebra>(algebra: &A, steps: &[Bytes], props: &[Bytes], prop: u16,
 
 /// The value of what holds at some next state.
 #[tactic(auto, using(crate::proofs::Evaluating::row_there, crate::proofs::Evaluating::row_alone))]
-fn next_at<A: Algebra>(algebra: &A, steps: &[Bytes], props: &[Bytes], rows: &[List<u16>], child: u16, state: usize) -> u16
+fn next_at<A: Algebra>(
+    algebra: &A,
+    steps: &[Bytes],
+    props: &[Bytes],
+    rows: &[List<u16>],
+    child: u16,
+    state: usize,
+) -> u16
     requires ready { AreReady (product (A.parts algebra.now)).size steps.now props.now rows.now }
     requires child { nat_lt child (length rows.now) ≡ true }
     requires state { state < length steps.now }
     ensures range { result < (product (A.parts algebra.now)).size }
     ensures value { result ≡ some_next (frame_in (A.parts algebra.now) steps.now props.now) (entry rows.now child) state }
 {
-    some_next(algebra, steps[state].as_slice(), rows[usize::from(child)].as_slice())
+    some_next(
+        algebra,
+        steps[state].as_slice(),
+        rows[usize::from(child)].as_slice(),
+    )
 }
 
 /// The value of a node at a state.
-fn value_at<A: Algebra>(algebra: &A, steps: &[Bytes], props: &[Bytes], rows: &[List<u16>], kind: Kind, state: usize) -> u16
+fn value_at<A: Algebra>(
+    algebra: &A,
+    steps: &[Bytes],
+    props: &[Bytes],
+    rows: &[List<u16>],
+    kind: Kind,
+    state: usize,
+) -> u16
     requires ready { AreReady (product (A.parts algebra.now)).size steps.now props.now rows.now }
     requires children { has_children_below (length rows.now) kind ≡ true }
     requires kind { is_kind_in (product (A.parts algebra.now)).size (length props.now) kind ≡ true }
@@ -118,7 +149,14 @@ fn value_at<A: Algebra>(algebra: &A, steps: &[Bytes], props: &[Bytes], rows: &[L
 
 /// The values of a node at all states.
 #[tactic(auto, using(crate::proofs::Evaluating::no_row))]
-fn node_row<A: Algebra>(alloc: Global, algebra: &A, steps: &[Bytes], props: &[Bytes], rows: &[List<u16>], kind: Kind) -> Result<List<u16>, Memory>
+fn node_row<A: Algebra>(
+    alloc: Global,
+    algebra: &A,
+    steps: &[Bytes],
+    props: &[Bytes],
+    rows: &[List<u16>],
+    kind: Kind,
+) -> Result<List<u16>, Memory>
     requires ready { AreReady (product (A.parts algebra.now)).size steps.now props.now rows.now }
     requires children { has_children_below (length rows.now) kind ≡ true }
     requires kind { is_kind_in (product (A.parts algebra.now)).size (length props.now) kind ≡ true }
@@ -134,7 +172,13 @@ fn node_row<A: Algebra>(alloc: Global, algebra: &A, steps: &[Bytes], props: &[By
 
 /// The values of all nodes at all states, a row for each node.
 #[tactic(auto, using(crate::proofs::Evaluating::ready_first, crate::proofs::Evaluating::child_first, crate::proofs::Evaluating::kind_first, crate::proofs::Evaluating::no_values, crate::proofs::Evaluating::are_denoted))]
-pub(crate) fn functions<A: Algebra>(alloc: Global, algebra: &A, steps: &[Bytes], props: &[Bytes], nodes: &[Kind]) -> Result<List<List<u16>>, Memory>
+pub(crate) fn functions<A: Algebra>(
+    alloc: Global,
+    algebra: &A,
+    steps: &[Bytes],
+    props: &[Bytes],
+    nodes: &[Kind],
+) -> Result<List<List<u16>>, Memory>
     requires steps { AreRows (product (A.parts algebra.now)).size (length steps.now) steps.now }
     requires props { AreRows (product (A.parts algebra.now)).size (length steps.now) props.now }
     requires ordered { are_ordered_from 0 nodes.now ≡ true }

@@ -17,7 +17,12 @@ use xc_view::Command;
 
 /// Whether the guard of a command holds at some places, for each command.
 #[tactic(auto, using(crate::proofs::Framing::passes))]
-fn holding(alloc: Global, vars: &Vars, commands: &[Command], from: &[u8]) -> Result<List<bool>, Memory>
+fn holding(
+    alloc: Global,
+    vars: &Vars,
+    commands: &[Command],
+    from: &[u8],
+) -> Result<List<bool>, Memory>
     requires guards { list_all (has_guard_in vars.now) commands.now ≡ true }
     requires from { length from.now ≡ length vars.now }
     ensures { IfOk result (λ tests. tests ≡ map (guards from.now) commands.now) }
@@ -100,7 +105,9 @@ fn transition<A: Algebra>(
 {
     let mut sum = algebra.bottom();
     for i in (0..commands.len()).rev() {
-        sum = with_command(algebra, vars, names, commands, codes, tests, from, to, i, sum);
+        sum = with_command(
+            algebra, vars, names, commands, codes, tests, from, to, i, sum,
+        );
     }
     sum as u8
 }
@@ -131,7 +138,16 @@ fn step_row<A: Algebra>(
     let tests = holding(alloc, vars, commands, from)?;
     let mut row = List::new(alloc);
     for to in places {
-        row.push(transition(algebra, vars, names, commands, codes, tests.as_slice(), from, to.as_slice()))?;
+        row.push(transition(
+            algebra,
+            vars,
+            names,
+            commands,
+            codes,
+            tests.as_slice(),
+            from,
+            to.as_slice(),
+        ))?;
     }
     Ok(row)
 }
@@ -159,7 +175,16 @@ pub(crate) fn step_rows<A: Algebra>(
 {
     let mut rows = List::new(alloc);
     for from in places {
-        rows.push(step_row(alloc, algebra, vars, names, commands, codes, places, from.as_slice())?)?;
+        rows.push(step_row(
+            alloc,
+            algebra,
+            vars,
+            names,
+            commands,
+            codes,
+            places,
+            from.as_slice(),
+        )?)?;
     }
     Ok(rows)
 }

@@ -56,7 +56,15 @@ pub(crate) fn steps<A: Algebra>(
     is_fit(lattice);
     let commands = view.commands().as_slice();
     let codes = command_codes(alloc, lattice, commands)?;
-    let rows = step_rows(alloc, algebra, view.vars(), lattice.names(), commands, codes.as_slice(), places)?;
+    let rows = step_rows(
+        alloc,
+        algebra,
+        view.vars(),
+        lattice.names(),
+        commands,
+        codes.as_slice(),
+        places,
+    )?;
     Ok(rows)
 }
 
@@ -78,6 +86,15 @@ pub(crate) fn props<A: Algebra>(
     let lines = view.props().as_slice();
     let names = prop_names(alloc, view)?;
     let codes = line_codes(alloc, lattice, lines)?;
-    let rows = prop_rows(alloc, algebra, view.vars(), lattice.names(), lines, codes.as_slice(), places, names.as_slice())?;
+    let rows = prop_rows(
+        alloc,
+        algebra,
+        view.vars(),
+        lattice.names(),
+        lines,
+        codes.as_slice(),
+        places,
+        names.as_slice(),
+    )?;
     Ok(rows)
 }
