@@ -5,3 +5,13 @@ pub mod Checking
 pub mod Outcomes
 pub mod Serving
 pub mod Existence
+pub mod Evaluating
+pub mod Framing
+pub mod Saying
+pub mod Reports
+pub mod Joining
+pub mod Carrying
+pub mod Differing
+pub mod Sound
+pub mod Framed
+pub mod Fitting

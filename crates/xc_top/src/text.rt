@@ -12,7 +12,7 @@ use xc_base::{List, Word};
 use xc_lattice::{Lattice, Law};
 
 /// The name of an element.
-fn name_of(lattice: &Lattice, element: u8) -> &str
+pub(crate) fn name_of(lattice: &Lattice, element: u8) -> &str
     requires { element < length (value_of lattice.now).names }
     ensures { result.now ≡ name_at (value_of lattice.now).names element }
 {
@@ -20,7 +20,7 @@ fn name_of(lattice: &Lattice, element: u8) -> &str
 }
 
 /// Appends a label and a value to a text.
-fn push_both(text: &mut String, label: &str, value: &str) -> Result<(), AllocError>
+pub(crate) fn push_both(text: &mut String, label: &str, value: &str) -> Result<(), AllocError>
     ensures { OnOk result (string_bytes text.new ≡ string_bytes text.old ++ label.now ++ value.now) }
 {
     text.push_str(label)?;
