@@ -14,6 +14,7 @@ use Rattle.xc_view.specs.declared.lines.PropLine.{PropLine}
 use Rattle.xc_view.specs.declared.lines.Command.{Command}
 use Rattle.xc_lattice.specs.LatticeFiles.{LatticeValue}
 use Rattle.xc_top.specs.Checks.{unknown_value}
+use Rattle.xc_top.proofs.Sound.{sound_parts}
 
 -- the first of the lines from a place on, and the others
 pub prop_next : (p : List ℕ → Bool) (lines : List PropLine) (i : ℕ) (d : PropLine) → i < length lines
@@ -59,13 +60,8 @@ module _ (v : ViewValue) (l : LatticeValue) (names : List (List ℕ)) (lines : L
       ∙ sym (or_none (find (λ w. not (is_among names w)) (map (λ (x : PropLine). x.value) lines)) (find (λ w. not (is_among names w)) (map (λ (c : CommandValue). c.value) v.commands)) (sym none)) ∙ lines_first
 
 -- the variables of a sound view
-sound_fit : (v : ViewValue) → is_sound v ≡ true → are_fit v.vars ≡ true
-sound_fit v h =
-    let a = and_parts _ _ (and_parts _ _ (and_parts _ _ (and_parts _ _ (and_parts _ _ h).0).0).0).0 in
-    (and_parts _ _ (and_parts _ _ a.0).0).1
-
 pub sound_domains : (v : ViewValue) → is_sound v ≡ true → list_all is_domain v.vars ≡ true
-sound_domains v h = fit_domains v.vars (sound_fit v h)
+sound_domains v h = fit_domains v.vars (sound_parts v h).fit
 
 pub sound_states : (v : ViewValue) → is_sound v ≡ true → total (sizes_of v.vars) ≤ state_limit
-sound_states v h = fit_states v.vars (sound_fit v h)
+sound_states v h = fit_states v.vars (sound_parts v h).fit
