@@ -155,6 +155,6 @@ front_of p = record { tree = written p.phrase; rest = texts p.rest.now }
 abbrev pub named_front : Named → Front (List (List ℕ))
 named_front n = record { tree = n.name.text.now ∷ []; rest = texts n.rest.now }
 
--- and of names
+-- the same of names
 abbrev pub listed_front : Listed → Front (List (List ℕ))
 listed_front l = record { tree = texts l.names; rest = texts l.rest.now }
