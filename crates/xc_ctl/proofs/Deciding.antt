@@ -12,6 +12,7 @@ use Rattle.xc_ctl.specs.Deciding.{decide, known_table, formula_table, row_table}
 use Rattle.xc_ctl.specs.declared.kind.Kind.{Kind}
 use Rattle.xc_ctl.proofs.FormulaReading.{formula_sound, formula_complete}
 
+-- what is read is the formula that is due
 pub decides : (n : Signature) → Decides (formula_format n) decide
 decides n = record { sound = λ before tokens f e. formula_sound tokens f e; complete = λ before tokens f s. formula_complete tokens f s }
 
@@ -36,6 +37,7 @@ module _ (n : Signature) (before : List Written) (number : ℕ) where
   by_formula None = refl
   by_formula (Some f) = by_tree f (resolved n f) refl
 
+  -- by whether a word of a form that is not read yet stands there
   by_words : (b : Bool) (o : Option Written) → cond b (Err (NotYet number)) (formula_table n (length before) number o) ≡ on_ok (cond b (Err (NotYet number)) (judged (formula_format n) before number o)) (table_ok n)
   by_words true o = refl
   by_words false o = by_formula o

@@ -20,6 +20,7 @@ pub record IsFit (n : Signature) : Type 0 where
   pub bottom : n.bottom < total (sizes_of n.parts)
   pub top : n.top < total (sizes_of n.parts)
 
+-- a signature that is fit has all of it
 pub fit : (n : Signature) → is_fit n ≡ true → IsFit n
 fit n h =
     let a = and_parts _ _ h in
@@ -32,9 +33,11 @@ fit n h =
     let i = and_parts _ _ g.0 in
     record { props = leb-true _ _ i.0; parts = e.1; few = leb-true _ _ d.1; bottom = ltb-true _ _ c.1; top = ltb-true _ _ b.1 }
 
+-- its parts are fit
 pub fit_parts : (n : Signature) → is_fit n ≡ true → list_all is_part n.parts ≡ true
 fit_parts n h = (fit n h).parts
 
+-- its elements are few
 pub fit_total : (n : Signature) → is_fit n ≡ true → total (sizes_of n.parts) ≤ 4096
 fit_total n h = (fit n h).few
 
@@ -46,9 +49,11 @@ prop_fits n name place h e = let few = (fit n h).props in let low = found_in_ran
 part_sizes : (names : List (List ℕ)) → is_part names ≡ true → (2 ≤ length names) × (length names ≤ 64)
 part_sizes names h = let p = and_parts _ _ (and_parts _ _ h).0 in (leb-true _ _ p.0, leb-true _ _ p.1)
 
+-- the same of the part at a place
 pub part_some : (parts : List (List (List ℕ))) (place : ℕ) (d : List (List ℕ)) → list_all is_part parts ≡ true → place < length parts → 2 ≤ length (get_or parts place d)
 part_some parts place d h low = (part_sizes (get_or parts place d) (AllPass-from_list_all is_part parts h place d low)).0
 
+-- and that it has no more than 64
 pub part_few : (parts : List (List (List ℕ))) (place : ℕ) (d : List (List ℕ)) → list_all is_part parts ≡ true → place < length parts → length (get_or parts place d) ≤ 64
 part_few parts place d h low = (part_sizes (get_or parts place d) (AllPass-from_list_all is_part parts h place d low)).1
 
@@ -67,15 +72,18 @@ some_total (names ∷ parts) h =
     let up = scaled (length names) (total (sizes_of parts)) (omega arith) in
     omega (arith, more, up)
 
+-- the parts from a place on are fit
 parts_drop : (parts : List (List (List ℕ))) (place : ℕ) → list_all is_part parts ≡ true → list_all is_part (drop place parts) ≡ true
 parts_drop parts zero h = h
 parts_drop [] (suc place) h = refl
 parts_drop (names ∷ parts) (suc place) h = parts_drop parts place (and_parts _ _ h).1
 
+-- they have an element
 pub total_some : (parts : List (List (List ℕ))) (place : ℕ) → list_all is_part parts ≡ true → 1 ≤ total_from parts place
 unfolding total_from
 total_some parts place h = some_total (drop place parts) (parts_drop parts place h)
 
+-- and no more than all parts
 total_below : (parts : List (List (List ℕ))) (place : ℕ) → list_all is_part parts ≡ true → total (sizes_of (drop place parts)) ≤ total (sizes_of parts)
 total_below parts zero h = omega arith
 total_below [] (suc place) h = omega arith
@@ -104,10 +112,12 @@ total_stepped parts place count size some within is at =
     let last : total_from parts (place - 1 + 1) ≡ count = ap (total_from parts) back ∙ sym is in
     mul_comm count size ∙ ap (λ (k : ℕ). k * count) at ∙ ap (λ (k : ℕ). length (part_at parts (place - 1)) * k) (sym last) ∙ sym more
 
+-- so they have few
 total_fits : (parts : List (List (List ℕ))) (place : ℕ) → list_all is_part parts ≡ true → total (sizes_of parts) ≤ 4096 → total_from parts place ≤ 4096
 unfolding total_from
 total_fits parts place h few = let below = total_below parts place h in omega (arith, below)
 
+-- one turn of the loop stays small
 pub stepped_fits : (parts : List (List (List ℕ))) (place count size : ℕ) → list_all is_part parts ≡ true → total (sizes_of parts) ≤ 4096 → 0 < place → place ≤ length parts → count ≡ total_from parts place → size ≡ length (part_at parts (place - 1)) → count * size < 65536
 stepped_fits parts place count size h few some within is at =
     let same = total_stepped parts place count size some within is at in
@@ -130,6 +140,7 @@ digit_more : (code size digit t : ℕ) (sizes : List ℕ) (o : Option (List ℕ)
 digit_more code size digit t sizes None e = refl
 digit_more code size digit t sizes (Some row) e = ap Some (rw e (grind arith))
 
+-- the code takes in the digit at a place
 pub element_next : (parts : List (List (List ℕ))) (values : List (List ℕ)) (code place size digit : ℕ) → place < length parts → place < length values → size ≡ length (part_at parts place)
     → digit_at parts values place ≡ Some digit → element_from (code * size + digit) parts values (place + 1) ≡ element_from code parts values place
 unfolding element_from digit_at
@@ -158,6 +169,7 @@ digits_none (names ∷ parts) (v ∷ values) h = by_digit (position (bytes_eq v)
     by_digit None e = refl
     by_digit (Some d) e = rw e refl
 
+-- so they name no element
 pub element_none : (parts : List (List (List ℕ))) (values : List (List ℕ)) → length values ≢ length parts → element_named parts values ≡ None
 element_none parts values h = ap (option_map (code_of (sizes_of parts))) (digits_none parts values h)
 
@@ -166,6 +178,7 @@ pub room_start : (parts : List (List (List ℕ))) → total (sizes_of parts) ≤
 unfolding room
 room_start parts h = omega arith
 
+-- what begins with one digit more is a part of what begins without it
 less_room : (code size digit t : ℕ) → digit < size → (code * size + digit + 1) * t ≤ (code + 1) * (size * t)
 less_room code size digit t h =
     let more : (code + 1) * (size * t) ≡ (code * size + digit + 1) * t + (size - (digit + 1)) * t = by_sum (size - (digit + 1)) (omega arith) in
@@ -174,6 +187,7 @@ less_room code size digit t h =
     by_sum : (k : ℕ) → size ≡ digit + 1 + k → (code + 1) * (size * t) ≡ (code * size + digit + 1) * t + k * t
     by_sum k e = rw e (grind arith)
 
+-- with one digit more there is no more room
 pub room_next : (parts : List (List (List ℕ))) (code place size digit : ℕ) → place < length parts → size ≡ length (part_at parts place) → digit < length (part_at parts place)
     → room code parts place ≤ 4096 → room (code * size + digit) parts (place + 1) ≤ 4096
 unfolding room
@@ -183,6 +197,7 @@ room_next parts code place size digit a s low h =
     let less = less_room code size digit t (omega arith) in
     omega (arith, ap (λ (k : ℕ). (code + 1) * k) more)
 
+-- where there is little room, the code is small
 pub room_small : (parts : List (List (List ℕ))) (code place : ℕ) → list_all is_part parts ≡ true → room code parts place ≤ 4096 → code < 4096
 unfolding room
 room_small parts code place h r =

@@ -54,6 +54,7 @@ atom_by d token rest f true p e =
     subst (λ (t : List ℕ). Begins (IsSpelled Basic d) (t ∷ rest) f) (sym (same_bytes token (codes "{") p)) (braces_sound d rest f (names rest) refl e)
 atom_by d token rest f false p e = word_by d token rest f (is_prop_name token) (bytes_eq token (codes "true")) (bytes_eq token (codes "false")) refl refl refl e
 
+-- a formula with no formula in it is spelled so
 atom_sound : (d : ℕ) (tokens : List (List ℕ)) (f : Front Written) → atom tokens ≡ Some f → Begins (IsSpelled Basic d) tokens f
 unfolding atom
 atom_sound d [] f e = absurd (none-some f e)
@@ -114,6 +115,7 @@ under_by d s token rest f false false false false n p q r e =
     let none : None ≡ Some f = rw r at e in
     absurd (none-some f none)
 
+-- so is what begins with an operator or `(`
 nested_sound : (d : ℕ) → IsSound (IsSpelled Basic d) (basic d) → (tokens : List (List ℕ)) (f : Front Written) → nested_by (basic d) tokens ≡ Some f → Begins (IsSpelled Basic (suc d)) tokens f
 nested_sound d s [] f e = absurd (none-some f e)
 nested_sound d s (token ∷ rest) f e = under_by d s token rest f (bytes_eq token (codes "!")) (bytes_eq token (codes "EX")) (bytes_eq token (codes "AX")) (bytes_eq token (codes "(")) refl refl refl refl e
@@ -130,6 +132,7 @@ unfolding basic
 basic_sound zero = record { begins = λ tokens f e. atom_sound zero tokens f e }
 basic_sound (suc d) = record { begins = λ tokens f e. basic_by d (basic_sound d) tokens f (atom tokens) refl e }
 
+-- the same of implications
 implication_sound : (d : ℕ) → IsSound (IsSpelled Implication d) (implication d)
 unfolding implication
 implication_sound d = wholes_sound d (basic_sound d)
@@ -138,9 +141,11 @@ implication_sound d = wholes_sound d (basic_sound d)
 pub basic_shortens : (d : ℕ) → Shortens (basic d)
 basic_shortens d = sound_shortens (IsSpelled Basic d) (basic d) (basic_sound d)
 
+-- behind a product
 pub products_shorten : (d : ℕ) → Shortens (products (basic d))
 products_shorten d = sound_shortens (IsSpelled Product d) (products (basic d)) (products_sound d (basic_sound d))
 
+-- behind a sum
 pub sums_shorten : (d : ℕ) → Shortens (sums (basic d))
 sums_shorten d = sound_shortens (IsSpelled Sum d) (sums (basic d)) (sums_sound d (basic_sound d))
 
@@ -149,6 +154,7 @@ pub product_shortens : (d : ℕ) → Shortens (product d)
 unfolding product
 product_shortens d = products_shorten d
 
+-- the same of sums
 pub sum_shortens : (d : ℕ) → Shortens (sum d)
 unfolding sum
 sum_shortens d = sums_shorten d
@@ -177,6 +183,7 @@ not_brace : (p : List ℕ) → is_prop_name p ≡ true → (b : Bool) → bytes_
 not_brace p h true e = let same = same_bytes p (codes "{") e in let f : is_prop_name (codes "{") ≡ true = subst (λ (t : List ℕ). is_prop_name t ≡ true) same h in cc
 not_brace p h false e = refl
 
+-- so a name is read
 name_read : (d : ℕ) (p : List ℕ) (rest : List (List ℕ)) → is_prop_name p ≡ true → basic d (p ∷ rest) ≡ Some (record { tree = Name p; rest = rest })
 name_read d p rest h = word_read d p rest (Name p) (not_brace p h (bytes_eq p (codes "{")) refl) (rw h)
 
@@ -193,10 +200,12 @@ negated_read : (d : ℕ) (tokens : List (List ℕ)) (f : Front Written) → basi
 unfolding basic atom
 negated_read d tokens f e = rw e
 
+-- the same of `EX`
 some_next_read : (d : ℕ) (tokens : List (List ℕ)) (f : Front Written) → basic d tokens ≡ Some f → basic (suc d) (codes "EX" ∷ tokens) ≡ Some (record { tree = SomeNext f.tree; rest = f.rest })
 unfolding basic atom
 some_next_read d tokens f e = rw e
 
+-- the same of `AX`
 all_next_read : (d : ℕ) (tokens : List (List ℕ)) (f : Front Written) → basic d tokens ≡ Some f → basic (suc d) (codes "AX" ∷ tokens) ≡ Some (record { tree = AllNext f.tree; rest = f.rest })
 unfolding basic atom
 all_next_read d tokens f e = rw e
@@ -210,6 +219,7 @@ enclosed_read d tokens rest g e = rw e
 product_ends : (d : ℕ) (tokens rest : List (List ℕ)) (g : Written) → behind (codes "&") rest ≡ None → products (basic d) tokens ≡ chain (codes "&") And (basic d) g rest → products (basic d) tokens ≡ Some (record { tree = g; rest = rest })
 product_ends d tokens rest g k e = e ∙ chain_ends (codes "&") And (basic d) g rest k
 
+-- a sum is all that is read where no `|` stands behind
 sum_ends : (d : ℕ) (tokens rest : List (List ℕ)) (g : Written) → behind (codes "|") rest ≡ None → sums (basic d) tokens ≡ chain (codes "|") Or (products (basic d)) g rest → sums (basic d) tokens ≡ Some (record { tree = g; rest = rest })
 sum_ends d tokens rest g k e = e ∙ chain_ends (codes "|") Or (products (basic d)) g rest k
 

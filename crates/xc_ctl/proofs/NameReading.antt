@@ -31,6 +31,7 @@ one_by token rest f true p e =
     subst (λ (x : Front (List (List ℕ))). Begins IsOneName (token ∷ rest) x) (same_Some _ _ e)
     (record { front = token ∷ []; cut = refl; spelled = record { name = token; spelled = refl; is = refl; named = p } })
 
+-- a name that is read is one
 one_sound : IsSound IsOneName one_name
 unfolding one_name
 one_sound = record { begins = by_tokens }
@@ -39,6 +40,7 @@ one_sound = record { begins = by_tokens }
     by_tokens [] f e = absurd (none-some f e)
     by_tokens (token ∷ rest) f e = one_by token rest f (is_name token) refl e
 
+-- what is left is no longer
 pub one_shortens : Shortens one_name
 one_shortens = sound_shortens IsOneName one_name one_sound
 
@@ -47,10 +49,12 @@ listed_more : (first : List ℕ) (more : List (List ℕ)) (name : List ℕ) → 
 listed_more first [] name = refl
 listed_more first (next ∷ more) name = ap (λ (ts : List (List ℕ)). first ∷ codes "," ∷ ts) (listed_more next more name)
 
+-- names and a name are names
 named_more : (more : List (List ℕ)) (name : List ℕ) → list_all is_name more ≡ true → is_name name ≡ true → list_all is_name (more ++ name ∷ []) ≡ true
 named_more [] name h k = and_from _ _ k refl
 named_more (first ∷ more) name h k = let p = and_parts _ _ h in and_from _ _ p.0 (named_more more name p.1 k)
 
+-- listed names, a `,` and a name are listed names
 more_names : (left right a b : List (List ℕ)) → AreListed left a → IsOneName right b → AreListed (left ++ codes "," ∷ right) (joined a b)
 more_names left right a b l o =
     let all : joined a b ≡ (l.first ∷ l.more) ++ o.name ∷ [] = ap (λ (xs : List (List ℕ)). xs ++ b) l.some ∙ ap (λ (ys : List (List ℕ)). (l.first ∷ l.more) ++ ys) o.is in
@@ -65,6 +69,7 @@ more_names left right a b l o =
       named = subst (λ (xs : List (List ℕ)). list_all is_name xs ≡ true) (sym all) (named_more (l.first ∷ l.more) o.name (subst (λ (xs : List (List ℕ)). list_all is_name xs ≡ true) l.some l.named) o.named);
     }
 
+-- so is a name alone
 one_listed : (tokens names : List (List ℕ)) → IsOneName tokens names → AreListed tokens names
 one_listed tokens names o = record {
   first = o.name;

@@ -19,6 +19,7 @@ size_some (trees.Ex t) = omega arith
 one_length : (xs : List Kind) (node : Kind) (n : ℕ) → length xs ≡ n → length (xs ++ node ∷ []) ≡ n + 1
 one_length xs node n e = omega (arith, length-append xs (node ∷ []))
 
+-- nodes of two kinds with one more behind them
 two_length : (xs ys : List Kind) (node : Kind) (n m : ℕ) → length xs ≡ n → length ys ≡ m → length ((xs ++ ys) ++ node ∷ []) ≡ n + m + 1
 two_length xs ys node n m e f = omega (arith, length-append (xs ++ ys) (node ∷ []), length-append xs ys)
 
@@ -39,11 +40,13 @@ behind_length old k t = length-append old (nodes_from k t) ∙ ap (λ (n : ℕ).
 pub pushed_not : (old : List Kind) (t : Tree) (child : ℕ) → child ≡ length (old ++ nodes_from (length old) t) - 1 → (old ++ nodes_from (length old) t) ++ Not child ∷ [] ≡ old ++ nodes_from (length old) (trees.Not t)
 pushed_not old t child e = append_assoc old (nodes_from (length old) t) (Not child ∷ []) ∙ ap (λ (c : ℕ). old ++ (nodes_from (length old) t ++ Not c ∷ [])) (e ∙ ap (λ (n : ℕ). n - 1) (behind_length old (length old) t))
 
+-- the same of what holds at some next state
 pub pushed_ex : (old : List Kind) (t : Tree) (child : ℕ) → child ≡ length (old ++ nodes_from (length old) t) - 1 → (old ++ nodes_from (length old) t) ++ Ex child ∷ [] ≡ old ++ nodes_from (length old) (trees.Ex t)
 pushed_ex old t child e = append_assoc old (nodes_from (length old) t) (Ex child ∷ []) ∙ ap (λ (c : ℕ). old ++ (nodes_from (length old) t ++ Ex c ∷ [])) (e ∙ ap (λ (n : ℕ). n - 1) (behind_length old (length old) t))
 
 -- the parent of two children stands behind both
 module _ (node : ℕ → ℕ → Kind) where
+  -- whatever the parent is
   pushed_two : (old : List Kind) (s t : Tree) (first second : ℕ) → first ≡ length (old ++ nodes_from (length old) s) - 1
       → second ≡ length ((old ++ nodes_from (length old) s) ++ nodes_from (length (old ++ nodes_from (length old) s)) t) - 1
       → ((old ++ nodes_from (length old) s) ++ nodes_from (length (old ++ nodes_from (length old) s)) t) ++ node first second ∷ []
@@ -59,11 +62,13 @@ module _ (node : ℕ → ℕ → Kind) where
       ∙ ap (λ (xs : List Kind). xs ++ node (k + size_of s - 1) (k + size_of s + size_of t - 1) ∷ []) (append_assoc old (nodes_from k s) (nodes_from (k + size_of s) t))
       ∙ append_assoc old (nodes_from k s ++ nodes_from (k + size_of s) t) (node (k + size_of s - 1) (k + size_of s + size_of t - 1) ∷ [])
 
+-- a parent that holds where both do
 pub pushed_and : (old : List Kind) (s t : Tree) (first second : ℕ) → first ≡ length (old ++ nodes_from (length old) s) - 1
     → second ≡ length ((old ++ nodes_from (length old) s) ++ nodes_from (length (old ++ nodes_from (length old) s)) t) - 1
     → ((old ++ nodes_from (length old) s) ++ nodes_from (length (old ++ nodes_from (length old) s)) t) ++ And first second ∷ [] ≡ old ++ nodes_from (length old) (trees.And s t)
 pushed_and old s t first second e f = pushed_two And old s t first second e f
 
+-- a parent that holds where one does
 pub pushed_or : (old : List Kind) (s t : Tree) (first second : ℕ) → first ≡ length (old ++ nodes_from (length old) s) - 1
     → second ≡ length ((old ++ nodes_from (length old) s) ++ nodes_from (length (old ++ nodes_from (length old) s)) t) - 1
     → ((old ++ nodes_from (length old) s) ++ nodes_from (length (old ++ nodes_from (length old) s)) t) ++ Or first second ∷ [] ≡ old ++ nodes_from (length old) (trees.Or s t)

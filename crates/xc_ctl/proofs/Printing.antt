@@ -20,6 +20,7 @@ use Rattle.xc_ctl.proofs.ElementCodes.{total_more, total_some}
 pub texts_more : (xs : List Lexeme) (x : Lexeme) → texts (xs ++ x ∷ []) ≡ texts xs ++ x.text.now ∷ []
 texts_more xs x = map-append (λ (y : Lexeme). y.text.now) xs (x ∷ [])
 
+-- no token more
 pub none_more : (ts : List (List ℕ)) → ts ≡ ts ++ []
 none_more ts = sym (append-nil ts)
 
@@ -30,9 +31,11 @@ digit_low parts place rest weight h low r e =
     let bound : rest < length (part_at parts place) * total_from parts (place + 1) = subst (λ (n : ℕ). rest < n) (total_more parts place low) r in
     rw e (div_below rest (total_from parts (place + 1)) (length (part_at parts place)) some bound)
 
+-- what is left is a code of the parts behind
 pub rest_low : (parts : List (List (List ℕ))) (place rest weight : ℕ) → list_all is_part parts ≡ true → weight ≡ total_from parts (place + 1) → rest % weight < total_from parts (place + 1)
 rest_low parts place rest weight h e = rw e (mod_below rest (total_from parts (place + 1)) (total_some parts (place + 1) h))
 
+-- the parts from the first on are all
 pub all_from : (parts : List (List (List ℕ))) (code : ℕ) → code < total (sizes_of parts) → code < total_from parts 0
 unfolding total_from
 all_from parts code h = h
@@ -41,14 +44,17 @@ all_from parts code h = h
 some_left : (n : ℕ) → nat_lt 0 (suc n) ≡ true
 some_left n = grind (arith)
 
+-- a name, and a `,` where more follow
 listed_first : (name : List ℕ) (parts : List (List (List ℕ))) (code : ℕ) (more : Bool) → more ≡ nat_lt 0 (length parts)
     → listed (name ∷ digit_names parts (digits (sizes_of parts) code)) ≡ (name ∷ only_if more (codes ",")) ++ listed (digit_names parts (digits (sizes_of parts) code))
 listed_first name [] code more e = rw e refl
 listed_first name (names ∷ parts) code more e = rw (e ∙ some_left (length parts)) refl
 
+-- whether more follow
 more_left : (parts : List (List (List ℕ))) (place : ℕ) → place < length parts → nat_lt (place + 1) (length parts) ≡ nat_lt 0 (length (drop (place + 1) parts))
 more_left parts place h = rw (length-drop (place + 1) parts) (grind arith)
 
+-- the name of the digit at a place, and those behind
 pub digits_next : (parts : List (List (List ℕ))) (place rest weight : ℕ) → place < length parts → weight ≡ total_from parts (place + 1)
     → digits_from parts place rest ≡ (name_at (part_at parts place) (rest / weight) ∷ only_if (nat_lt (place + 1) (length parts)) (codes ",")) ++ digits_from parts (place + 1) (rest % weight)
 unfolding digits_from total_from
@@ -58,6 +64,7 @@ digits_next parts place rest weight h e =
     (ap (λ (ps : List (List (List ℕ))). listed (digit_names ps (digits (sizes_of ps) rest))) first
     ∙ listed_first (name_at (part_at parts place) (rest / total (sizes_of (drop (place + 1) parts)))) (drop (place + 1) parts) (rest % total (sizes_of (drop (place + 1) parts))) (nat_lt (place + 1) (length parts)) (more_left parts place h))
 
+-- behind the last part there is none
 pub digits_end : (parts : List (List (List ℕ))) (place rest : ℕ) → length parts ≤ place → digits_from parts place rest ≡ []
 unfolding digits_from
 digits_end parts place rest h = rw (drop_all place parts h) refl
@@ -84,6 +91,7 @@ no_word [] place h = refl
 no_word (t ∷ ts) zero h = absurd (omega arith)
 no_word (t ∷ ts) (suc place) h = no_word ts place (omega arith)
 
+-- no blank follows the last token
 no_gap : (b : Bool) (xs : List ℕ) → xs ≡ (xs ++ (if b && false then 32 ∷ [] else [])) ++ []
 no_gap true xs = sym (append-nil (xs ++ []) ∙ append-nil xs)
 no_gap false xs = sym (append-nil (xs ++ []) ∙ append-nil xs)
@@ -96,10 +104,12 @@ spaced_next (t ∷ []) zero h = no_gap (is_word t) t
 spaced_next (t ∷ next ∷ more) zero h = refl
 spaced_next (t ∷ ts) (suc place) h = let e : suc place + 1 ≡ suc (place + 1) = omega arith in rw (e, spaced_next ts place (omega arith)) refl
 
+-- behind the last token there is no text
 pub spaced_end : (ts : List (List ℕ)) (place : ℕ) → length ts ≤ place → spaced (drop place ts) ≡ []
 unfolding spaced
 spaced_end ts place h = rw (drop_all place ts h) refl
 
+-- there are as many texts as tokens
 pub texts_count : (xs : List Lexeme) → length (texts xs) ≡ length xs
 texts_count [] = refl
 texts_count (x ∷ xs) = ap suc (texts_count xs)

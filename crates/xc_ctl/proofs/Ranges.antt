@@ -18,7 +18,7 @@ use Rattle.xc_ctl.specs.FormulaFiles.{table_in, tables_of}
 use Rattle.xc_ctl.specs.declared.kind.Kind.{Kind}
 use Rattle.xc_ctl.proofs.ElementCodes.{fit}
 
--- named digits are digits
+-- a digit and the digits behind it
 both_digits : (names : List (List ℕ)) (parts : List (List (List ℕ))) (v : List ℕ) (o : Option ℕ) (p : Option (List ℕ)) (row : List ℕ) → position (bytes_eq v) names ≡ o
     → ((rest : List ℕ) → p ≡ Some rest → AreDigits (sizes_of parts) rest) → both (λ (digit : ℕ) (rest : List ℕ). digit ∷ rest) o p ≡ Some row → AreDigits (sizes_of (names ∷ parts)) row
 both_digits names parts v None p row e rest h = cc
@@ -27,6 +27,7 @@ both_digits names parts v (Some d) (Some ds) row e rest h =
     let same : d ∷ ds ≡ row = cc in
     subst (AreDigits (sizes_of (names ∷ parts))) same (found_in_range names v d e, rest ds refl)
 
+-- named digits are digits
 named_digits : (parts : List (List (List ℕ))) (values : List (List ℕ)) (row : List ℕ) → digits_named parts values ≡ Some row → AreDigits (sizes_of parts) row
 named_digits [] [] row h = let same : [] ≡ row = cc in subst (AreDigits []) same tt
 named_digits [] (v ∷ values) row h = cc
@@ -49,28 +50,34 @@ const_in props parts values None e = refl
 const_in props parts values (Some row) e = lt-ltb (code_of (sizes_of parts) row) (total (sizes_of parts)) (codes_are_in_range (sizes_of parts) row (named_digits parts values row e))
 
 module _ (elements props : ℕ) where
+  -- a negation of what is in range
   not_in : (o : Option Tree) → is_in elements props o ≡ true → is_in elements props (option_map trees.Not o) ≡ true
   not_in None h = refl
   not_in (Some t) h = h
 
+  -- what holds at some next state
   ex_in : (o : Option Tree) → is_in elements props o ≡ true → is_in elements props (option_map trees.Ex o) ≡ true
   ex_in None h = refl
   ex_in (Some t) h = h
 
+  -- what holds at all
   all_next_in : (o : Option Tree) → is_in elements props o ≡ true → is_in elements props (option_map (λ t. trees.Not (trees.Ex (trees.Not t))) o) ≡ true
   all_next_in None h = refl
   all_next_in (Some t) h = h
 
+  -- both
   and_in : (o p : Option Tree) → is_in elements props o ≡ true → is_in elements props p ≡ true → is_in elements props (both trees.And o p) ≡ true
   and_in None p h k = refl
   and_in (Some s) None h k = refl
   and_in (Some s) (Some t) h k = and_from _ _ h k
 
+  -- one of two
   or_in : (o p : Option Tree) → is_in elements props o ≡ true → is_in elements props p ≡ true → is_in elements props (both trees.Or o p) ≡ true
   or_in None p h k = refl
   or_in (Some s) None h k = refl
   or_in (Some s) (Some t) h k = and_from _ _ h k
 
+  -- an implication
   implies_in : (o p : Option Tree) → is_in elements props o ≡ true → is_in elements props p ≡ true → is_in elements props (both (λ s t. trees.Or (trees.Not s) t) o p) ≡ true
   implies_in None p h k = refl
   implies_in (Some s) None h k = refl
@@ -89,17 +96,21 @@ known_in n h (written.And f g) = and_in _ _ (resolved n f) (resolved n g) (known
 known_in n h (written.Or f g) = or_in _ _ (resolved n f) (resolved n g) (known_in n h f) (known_in n h g)
 known_in n h (Implies f g) = implies_in _ _ (resolved n f) (resolved n g) (known_in n h f) (known_in n h g)
 
+-- so its tree is in range
 pub tree_in_range : (n : Signature) (f : Written) (t : Tree) → is_fit n ≡ true → resolved n f ≡ Some t → is_tree_in (total (sizes_of n.parts)) (length n.props) t ≡ true
 tree_in_range n f t h e = subst (λ (o : Option Tree). is_in (total (sizes_of n.parts)) (length n.props) o ≡ true) e (known_in n h f)
 
 -- the table of a tree
 module _ (elements props : ℕ) where
+  -- a table and a node
   one_more : (xs : List Kind) (node : Kind) → is_table_in elements props xs ≡ true → is_kind_in elements props node ≡ true → is_table_in elements props (xs ++ node ∷ []) ≡ true
   one_more xs node h k = list_all-append (is_kind_in elements props) xs (node ∷ []) ∙ and_from _ _ h (and_from _ _ k refl)
 
+  -- two tables and a node
   both_more : (xs ys : List Kind) (node : Kind) → is_table_in elements props xs ≡ true → is_table_in elements props ys ≡ true → is_kind_in elements props node ≡ true → is_table_in elements props ((xs ++ ys) ++ node ∷ []) ≡ true
   both_more xs ys node h k m = one_more (xs ++ ys) node (list_all-append (is_kind_in elements props) xs ys ∙ and_from _ _ h k) m
 
+  -- the nodes of a tree
   nodes_in : (k : ℕ) (t : Tree) → is_tree_in elements props t ≡ true → is_table_in elements props (nodes_from k t) ≡ true
   nodes_in k (trees.Const c) h = and_from _ _ h refl
   nodes_in k (trees.Atom p) h = and_from _ _ h refl
@@ -108,6 +119,7 @@ module _ (elements props : ℕ) where
   nodes_in k (trees.Or s t) h = let p = and_parts _ _ h in both_more (nodes_from k s) (nodes_from (k + size_of s) t) _ (nodes_in k s p.0) (nodes_in (k + size_of s) t p.1) refl
   nodes_in k (trees.Ex t) h = one_more (nodes_from k t) _ (nodes_in k t h) refl
 
+  -- where there is a tree
   table_range : (o : Option Tree) → is_in elements props o ≡ true → is_table_in elements props (table_in o) ≡ true
   table_range None h = refl
   table_range (Some t) h = nodes_in 0 t h

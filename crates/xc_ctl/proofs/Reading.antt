@@ -33,10 +33,12 @@ module _ (n : Signature) (rows : List Row) where
   formula_of table (Ok f) e = let same : table_in (resolved n f) ≡ table = cc in (f, refl, same)
   formula_of table (Err fault) e = cc
 
+  -- and its fault is that of the row
   fault_of : (fault : FileFault) (o : Result Written FileFault) → on_ok o (table_ok n) ≡ Err fault → o ≡ Err fault
   fault_of fault (Ok f) e = cc
   fault_of fault (Err other) e = cc
 
+  -- there are as many tables as formulas
   read_count : (place : ℕ) (tables : List (List Kind)) (h : HasRead n rows place tables) → length tables ≡ length h.formulas
   read_count place tables h = ap (λ (ts : List (List Kind)). length ts) h.same ∙ length-map h.formulas (λ (f : Written). table_in (resolved n f))
 
@@ -44,6 +46,7 @@ module _ (n : Signature) (rows : List Row) where
   here : (place : ℕ) (tables : List (List Kind)) (h : HasRead n rows place tables) → row_table n (length tables) (row_at rows place) ≡ on_ok (line_of (formula_format n) decide h.formulas (row_at rows place)) (table_ok n)
   here place tables h = ap (λ (k : ℕ). row_table n k (row_at rows place)) (read_count place tables h) ∙ row_is n h.formulas (row_at rows place)
 
+  -- the rest of the rows begins with that row
   rest_split : (place : ℕ) (tables : List (List Kind)) (h : HasRead n rows place tables) → place < length rows
       → statements_of (formula_format n) decide [] rows ≡ statements_of (formula_format n) decide h.formulas (row_at rows place ∷ drop (place + 1) rows)
   rest_split place tables h within = sym h.rest ∙ ap (statements_of (formula_format n) decide h.formulas) (row_first rows place within)
@@ -77,6 +80,7 @@ module _ (n : Signature) (rows : List Row) where
       stopped fault (rest_split place tables h within ∙ statements_of-stops (formula_format n) decide h.formulas (row_at rows place) (drop (place + 1) rows) fault at)
   stops_at place tables Memory h within e = tt
 
+  -- behind the last row all are formulas
   all_read : (tables : List (List Kind)) (h : HasRead n rows (length rows) tables) → statements_of (formula_format n) decide [] rows ≡ Ok h.formulas
   all_read tables h =
       sym h.rest ∙ ap (statements_of (formula_format n) decide h.formulas) (drop_all (length rows) rows (omega arith)) ∙ statements_of-end (formula_format n) decide h.formulas
@@ -86,6 +90,7 @@ module _ (n : Signature) (rows : List Row) where
   some_formula [] t more e = cc
   some_formula (f ∷ formulas) t more e = refl
 
+  -- then the file is accepted
   table_accepted : (t : List Kind) (more : List (List Kind)) → HasRead n rows (length rows) (t ∷ more) → IsAccepted (formula_format n) rows (t ∷ more)
   unfolding file_of
   table_accepted t more h =
@@ -94,10 +99,12 @@ module _ (n : Signature) (rows : List Row) where
       let w = (gives_statements (formula_format n) decide (decides n) rows h.formulas).0 (rw (all, some) refl) in
       record { statements = h.formulas; read = w.read; whole = w.whole; says = h.same }
 
+  -- where there is no table, there is no formula
   no_formula : (formulas : List Written) → [] ≡ tables_of n formulas → missing_part formulas ≡ Some parts.Formula
   no_formula [] e = refl
   no_formula (f ∷ formulas) e = cc
 
+  -- then one lacks
   none_lacks : HasRead n rows (length rows) [] → IsStop n rows (File (Missing parts.Formula))
   unfolding file_of
   none_lacks h =
@@ -109,6 +116,7 @@ module _ (n : Signature) (rows : List Row) where
 pub tables_more : (formulas : List Formula) (f : Formula) → tables_in (formulas ++ f ∷ []) ≡ tables_in formulas ++ f.nodes ∷ []
 tables_more formulas f = map-append (λ (g : Formula). g.nodes) formulas (f ∷ [])
 
+-- there are as many tables as formulas
 pub tables_count : (formulas : List Formula) → length (tables_in formulas) ≡ length formulas
 tables_count formulas = length-map formulas (λ (g : Formula). g.nodes)
 
@@ -120,10 +128,12 @@ pub read_accepted : (n : Signature) (rows : List Row) (formulas : List Formula) 
 read_accepted n rows [] h some = absurd (omega arith)
 read_accepted n rows (f ∷ formulas) h some = table_accepted n rows f.nodes (tables_in formulas) h
 
+-- with no formula the file lacks one
 pub read_lacks : (n : Signature) (rows : List Row) (formulas : List Formula) → HasRead n rows (length rows) (tables_in formulas) → length formulas ≡ 0 → IsStop n rows (File (Missing parts.Formula))
 read_lacks n rows [] h none = none_lacks n rows h
 read_lacks n rows (f ∷ formulas) h none = absurd (omega arith)
 
+-- what is read is in range
 pub read_range : (n : Signature) (rows : List Row) (formulas : List Formula) → is_fit n ≡ true → HasRead n rows (length rows) (tables_in formulas) → list_all (is_table_in (total (sizes_of n.parts)) (length n.props)) (tables_in formulas) ≡ true
 read_range n rows formulas fit h =
     subst (λ (tables : List (List Kind)). list_all (is_table_in (total (sizes_of n.parts)) (length n.props)) tables ≡ true) (sym h.same) (tables_in_range n h.formulas fit)

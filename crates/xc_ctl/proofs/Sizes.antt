@@ -15,36 +15,44 @@ abbrev size_in : Option Tree → ℕ
 size_in None = 0
 size_in (Some t) = size_of t
 
+-- a proposition
 atom_size : (o : Option ℕ) → size_in (option_map Atom o) ≤ 1
 atom_size None = omega arith
 atom_size (Some p) = omega arith
 
+-- a constant
 const_size : (o : Option ℕ) → size_in (option_map Const o) ≤ 1
 const_size None = omega arith
 const_size (Some c) = omega arith
 
+-- a negation
 not_size : (o : Option Tree) → size_in (option_map Not o) ≤ size_in o + 1
 not_size None = omega arith
 not_size (Some t) = omega arith
 
+-- what holds at some next state
 ex_size : (o : Option Tree) → size_in (option_map Ex o) ≤ size_in o + 1
 ex_size None = omega arith
 ex_size (Some t) = omega arith
 
+-- what holds at all of them
 all_size : (o : Option Tree) → size_in (option_map (λ t. Not (Ex (Not t))) o) ≤ size_in o + 3
 all_size None = omega arith
 all_size (Some t) = omega arith
 
+-- both
 and_size : (o p : Option Tree) → size_in (both And o p) ≤ size_in o + size_in p + 1
 and_size None p = omega arith
 and_size (Some s) None = omega arith
 and_size (Some s) (Some t) = omega arith
 
+-- one of two
 or_size : (o p : Option Tree) → size_in (both Or o p) ≤ size_in o + size_in p + 1
 or_size None p = omega arith
 or_size (Some s) None = omega arith
 or_size (Some s) (Some t) = omega arith
 
+-- an implication
 implies_size : (o p : Option Tree) → size_in (both (λ s t. Or (Not s) t) o p) ≤ size_in o + size_in p + 2
 implies_size None p = omega arith
 implies_size (Some s) None = omega arith

@@ -19,6 +19,7 @@ ordered_append k (x ∷ xs) ys h e =
 one_ordered : (k m : ℕ) (xs : List Kind) (node : Kind) → are_ordered_from k xs ≡ true → length xs ≡ m → has_children_below (k + m) node ≡ true → are_ordered_from k (xs ++ node ∷ []) ≡ true
 one_ordered k m xs node h e c = ordered_append k xs (node ∷ []) h (and_from _ _ (subst (λ (j : ℕ). has_children_below (k + j) node ≡ true) (sym e) c) refl)
 
+-- a parent behind two children
 both_ordered : (k m j : ℕ) (xs ys : List Kind) (node : Kind) → are_ordered_from k xs ≡ true → length xs ≡ m → are_ordered_from (k + m) ys ≡ true → length ys ≡ j → has_children_below (k + m + j) node ≡ true → are_ordered_from k ((xs ++ ys) ++ node ∷ []) ≡ true
 both_ordered k m j xs ys node h e i f c =
     let both = ordered_append k xs ys h (subst (λ (p : ℕ). are_ordered_from (k + p) ys ≡ true) (sym e) i) in
@@ -26,6 +27,7 @@ both_ordered k m j xs ys node h e i f c =
     let place : k + m + j ≡ k + (m + j) = omega arith in
     one_ordered k (m + j) (xs ++ ys) node both count (subst (λ (p : ℕ). has_children_below p node ≡ true) place c)
 
+-- children stand before their parents
 nodes_ordered : (k : ℕ) (t : Tree) → are_ordered_from k (nodes_from k t) ≡ true
 nodes_ordered k (trees.Const c) = refl
 nodes_ordered k (trees.Atom p) = refl
@@ -42,6 +44,7 @@ nodes_ordered k (trees.Or s t) =
     (and_from _ _ (lt-ltb (k + size_of s - 1) (k + size_of s + size_of t) (omega arith)) (lt-ltb (k + size_of s + size_of t - 1) (k + size_of s + size_of t) (omega arith)))
 nodes_ordered k (trees.Ex t) = one_ordered k (size_of t) (nodes_from k t) _ (nodes_ordered k t) (nodes_length k t) (let some = size_some t in lt-ltb (k + size_of t - 1) (k + size_of t) (omega arith))
 
+-- with at most 256 nodes it is a table
 pub tree_is_table : (t : Tree) → size_of t ≤ 256 → is_table (nodes_of t) ≡ true
 tree_is_table t few =
     let some = size_some t in

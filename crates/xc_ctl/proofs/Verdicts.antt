@@ -18,13 +18,16 @@ use Rattle.xc_ctl.specs.declared.kind.Kind.{Kind}
 use Rattle.xc_ctl.proofs.Deciding.{decides}
 use Rattle.xc_ctl.proofs.TreeTables.{tree_is_table}
 
+-- no file says two lists of tables
 pub tables_are_unique : TablesAreUnique
 tables_are_unique n rows tables others h k =
     h.says ∙ ap (tables_of n) (statements_are_unique (formula_format n) decide (decides n) rows h.statements k.statements h.read k.read) ∙ sym k.says
 
+-- no file has two first faults
 pub formula_faults_are_unique : FaultsAreUnique
 formula_faults_are_unique n = first_faults_are_unique (formula_format n) decide (decides n)
 
+-- no file that is accepted has a fault
 pub formulas_have_no_fault : AcceptedHasNoFault
 formulas_have_no_fault n rows tables fault h k = accepted_has_no_fault (formula_format n) decide (decides n) rows tables fault h k
 
@@ -34,6 +37,7 @@ judged_by : (n : Signature) (rows : List Row) → ((formulas : List Written) × 
 judged_by n rows (inl h) = inl (tables_of n h.0, record { statements = h.0; read = h.1.read; whole = h.1.whole; says = refl })
 judged_by n rows (inr h) = inr h
 
+-- each file is accepted or has a fault
 pub formula_files_are_judged : EachIsJudged
 formula_files_are_judged n rows = judged_by n rows (each_is_judged (formula_format n) decide (decides n) rows)
 
@@ -47,6 +51,7 @@ formula_is_table : (n : Signature) (before : ℕ) (o : Option Tree) → is_none 
 formula_is_table n before None h e = cc
 formula_is_table n before (Some t) h e = tree_is_table t (few_nodes (size_of t) _ _ (nat_lt node_limit (size_of t)) refl e)
 
+-- the tables of faultless formulas
 formulas_are_tables : (n : Signature) {before : List Written} {rows : List Row} {formulas : List Written} → AreStatements (formula_format n) before rows formulas → list_all is_table (tables_of n formulas) ≡ true
 formulas_are_tables n (none before) = refl
 formulas_are_tables n (next before row rows f more first rest) = and_from _ _ (formula_is_table n (length before) (resolved n f) first.known first.few) (formulas_are_tables n rest)

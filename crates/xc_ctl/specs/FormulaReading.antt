@@ -7,9 +7,9 @@ use Rattle.xc_base.specs.Words.{is_name}
 use Rattle.xc_ctl.specs.Written.{Written, True, False, Name, Braces, Not, SomeNext, AllNext, And, Or, Implies, is_prop_name}
 use Rattle.xc_ctl.specs.declared.phrase.Phrase.{Phrase}
 use Rattle.xc_ctl.specs.declared.phrase.Phrase.TheVariants as phrases
-use Rattle.xc_ctl.specs.declared.parser.Operator.{Operator}
-use Rattle.xc_ctl.specs.declared.parser.Operator.TheVariants as operators
-use Rattle.xc_ctl.specs.declared.parser.Parsed.{Parsed}
+use Rattle.xc_ctl.specs.declared.operators.Operator.{Operator}
+use Rattle.xc_ctl.specs.declared.operators.Operator.TheVariants as operators
+use Rattle.xc_ctl.specs.declared.phrase.Parsed.{Parsed}
 use Rattle.xc_ctl.specs.declared.atom_parser.Named.{Named}
 use Rattle.xc_ctl.specs.declared.atom_parser.Listed.{Listed}
 
@@ -31,6 +31,7 @@ unfoldable pub one_name : List (List ℕ) → Option (Front (List (List ℕ)))
 one_name [] = None
 one_name (token ∷ rest) = if is_name token then Some (record { tree = token ∷ []; rest = rest }) else None
 
+-- names and names behind them
 abbrev pub joined : List (List ℕ) → List (List ℕ) → List (List ℕ)
 joined left right = left ++ right
 
@@ -150,9 +151,10 @@ implication d tokens = implications (sums (basic d)) tokens
 abbrev pub front_of : Parsed → Front Written
 front_of p = record { tree = written p.phrase; rest = texts p.rest.now }
 
--- the same of a name, and of names
+-- the same of a name
 abbrev pub named_front : Named → Front (List (List ℕ))
 named_front n = record { tree = n.name.text.now ∷ []; rest = texts n.rest.now }
 
+-- the same of names
 abbrev pub listed_front : Listed → Front (List (List ℕ))
 listed_front l = record { tree = texts l.names; rest = texts l.rest.now }

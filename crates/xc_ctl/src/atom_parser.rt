@@ -5,8 +5,7 @@ ghost use Rattle.std.specs.Option.{option_map};
 ghost use Rattle.xc_base.specs.Lines.{texts};
 ghost use Rattle.xc_ctl.specs.FormulaReading.{written, front_of, named_front, listed_front, one_name, names, in_braces, word_formula, word_before, atom_at, atom};
 
-use crate::parser::Parsed;
-use crate::phrase::Phrase;
+use crate::phrase::{Parsed, Phrase};
 use crate::words::is_prop_name;
 use std::alloc::Global;
 use xc_base::{Lexeme, List, Memory, behind, is_name_text};

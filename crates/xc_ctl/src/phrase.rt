@@ -16,3 +16,10 @@ pub(crate) enum Phrase<'a> {
     Or(Box<Phrase<'a>>, Box<Phrase<'a>>),
     Implies(Box<Phrase<'a>>, Box<Phrase<'a>>),
 }
+
+/// A formula in front of tokens, and the tokens behind it.
+#[derive(Debug, Drop)]
+pub(crate) struct Parsed<'t, 'a> {
+    pub(crate) phrase: Phrase<'a>,
+    pub(crate) rest: &'t [Lexeme<'a>],
+}

@@ -1,8 +1,6 @@
 //! Formula files as they are read, against tables and faults by hand.
 
-ghost use Rattle.std.specs.Prelude.{◌≡◌, true, IfOk, ◌∷◌, []};
-ghost use Rattle.xc_base.specs.Words.{is_word};
-ghost use Rattle.xc_ctl.specs.Trees.{is_fit};
+ghost use Rattle.std.specs.Prelude.{◌≡◌, IfOk, ◌∷◌, [], codes};
 
 use crate::formula::Formulas;
 use crate::kind::Kind;
@@ -16,7 +14,7 @@ const LONG: &[u8] = b"a_name_that_has_thirty_two_bytes";
 
 fn props(alloc: Global) -> Result<List<Word>, Memory>
     ensures { IfOk result (λ names. names
-        ≡ "p" ∷ "q" ∷ "r" ∷ "a_name_that_has_thirty_two_bytes" ∷ []) }
+        ≡ codes "p" ∷ codes "q" ∷ codes "r" ∷ codes "a_name_that_has_thirty_two_bytes" ∷ []) }
 {
     let mut names = List::new(alloc);
     names.push(Word::of(alloc, b"p")?)?;
@@ -27,7 +25,8 @@ fn props(alloc: Global) -> Result<List<Word>, Memory>
 }
 
 fn parts(alloc: Global) -> Result<List<List<Word>>, Memory>
-    ensures { IfOk result (λ parts. parts ≡ ("F" ∷ "T" ∷ []) ∷ ("F" ∷ "M" ∷ "T" ∷ []) ∷ []) }
+    ensures { IfOk result (λ parts. parts
+        ≡ (codes "F" ∷ codes "T" ∷ []) ∷ (codes "F" ∷ codes "M" ∷ codes "T" ∷ []) ∷ []) }
 {
     let mut two = List::new(alloc);
     two.push(Word::of(alloc, b"F")?)?;
@@ -206,7 +205,7 @@ fn around(
 fn limits_are_kept(rt: HostRuntime) -> Result<(), Fail> {
     let alloc = rt.alloc();
     let more = b"&a_name_that_has_thirty_two_bytes";
-    let table: [(&[u8], &[u8], &[u8], u32, u32, &str); 11] = [
+    let table: [(&[u8], &[u8], &[u8], u32, u32, &str); 13] = [
         // 512 around each other
         (b"(", b"p", b")", 512, 512, "1 formulas, 1 nodes"),
         (b"(", b"p", b")", 513, 513, "NoStatement 1"),
@@ -218,6 +217,9 @@ fn limits_are_kept(rt: HostRuntime) -> Result<(), Fail> {
         // 4,000 bytes: 121 names of 32 with a `&` between two, and so many `!`
         (b"!", LONG, more.as_slice(), 8, 120, "1 formulas, 249 nodes"),
         (b"!", LONG, more.as_slice(), 9, 120, "Text 1 4001"),
+        // many operators
+        (b"p->", b"p", b"", 1300, 0, "Nodes 1 3901"),
+        (b"", b"p", b"&p", 0, 2000, "Nodes 1 4001"),
         // 64 formulas
         (b"p\n", b"q", b"", 63, 0, "64 formulas, 1 nodes"),
         (b"p\n", b"q", b"", 64, 0, "Formulas 65 65"),
