@@ -1,8 +1,7 @@
 -- The values of nodes over a frame that is told by rows of codes.
-use Rattle.std.proofs.Common.{◌≡◌, ℕ, zero, suc, ◌+◌, ◌-◌, ◌<◌, ◌≤◌, true, nat_lt, List, [], ◌∷◌, ◌++◌, length, map, get_or, slice_index, refl, sym, ◌∙◌, ap, subst, arith, inl, inr, ◌⊎◌, add-one, cond}
+use Rattle.std.proofs.Common.{◌≡◌, ℕ, suc, ◌+◌, ◌-◌, ◌<◌, ◌≤◌, true, nat_lt, List, [], ◌∷◌, ◌++◌, length, map, get_or, slice_index, refl, sym, ◌∙◌, ap, subst, arith, inl, inr, ◌⊎◌}
 use Rattle.std.specs.List.{range_with_len, slice_index_or}
 use Rattle.xc_alg.specs.Operations.{Operations}
-use Rattle.xc_alg.specs.Bounds.{joined}
 use Rattle.std.proofs.lemmas.Bool.{ltb-true, cases_lt}
 use Rattle.std.proofs.lemmas.List.{get_or_default, get_or_append_left, get_or_push, length_push}
 use Rattle.std.proofs.lemmas.List.FromFn.{get_or-map-range_with_len, map-range_with_len_more}
@@ -12,7 +11,7 @@ use Rattle.xc_alg.proofs.AlgebraLaws.{meet_commutes, meet_with_bottom, join_comm
 use Rattle.xc_alg.specs.Products.{product, AreLawful}
 use Rattle.xc_alg.specs.Tables.{entry}
 use Rattle.xc_theory.specs.Lattices.{LatticeData}
-use Rattle.xc_ctl.specs.Frames.{Frame, IsFrame, weighed, some_next}
+use Rattle.xc_ctl.specs.Frames.{Frame, IsFrame, some_next}
 use Rattle.xc_ctl.proofs.Denoting.{next_joined, node_value, ordered_child}
 use Rattle.xc_ctl.specs.Denotations.{Denotes, AreDenotations}
 use Rattle.xc_ctl.specs.Tables.{first_child, second_child, node_at, has_children_below, are_ordered_from, is_kind_in, is_table_in}

@@ -1,14 +1,11 @@
 -- The rows that are taken of a view are those of its frame.
-use Rattle.std.proofs.Common.{◌≡◌, ℕ, zero, suc, ◌+◌, ◌<◌, ◌≤◌, Bool, true, List, [], ◌∷◌, ◌++◌, length, map, get_or, slice_index, Option, None, refl, sym, ◌∙◌, ap, subst, arith}
-use Rattle.std.specs.List.{list_all, range_with_len, filter, find, slice_index_or}
+use Rattle.std.proofs.Common.{◌≡◌, ℕ, zero, suc, ◌<◌, ◌≤◌, Bool, true, List, [], ◌∷◌, ◌++◌, length, map, get_or, slice_index, None, refl, sym, ◌∙◌, ap, subst, arith}
+use Rattle.std.specs.List.{list_all, range_with_len, filter, slice_index_or}
 use Rattle.std.proofs.lemmas.Bool.{and_parts}
-use Rattle.std.proofs.lemmas.List.{get_or_default, get_or-map, length-map}
+use Rattle.std.proofs.lemmas.List.{get_or-map, length-map}
 use Rattle.std.proofs.lemmas.List.FromFn.{get_or-map-range_with_len, length-map-range_with_len}
-use Rattle.xc_theory.specs.Codes.{AreDigits, digits}
 use Rattle.xc_theory.proofs.Codes.{digits_are_in_range}
-use Rattle.xc_theory.specs.Bounds.{join_of}
-use Rattle.xc_theory.specs.Lattices.{LatticeData, IsLawful, size}
-use Rattle.xc_alg.specs.Operations.{Operations}
+use Rattle.xc_theory.specs.Lattices.{LatticeData, size}
 use Rattle.xc_alg.specs.Products.{product}
 use Rattle.xc_alg.specs.Bounds.{joined, AreElements}
 use Rattle.xc_alg.specs.Tables.{entry}

@@ -1,17 +1,13 @@
 -- The values of transitions and propositions, as the code comes to them.
-use Rattle.std.proofs.Common.{◌≡◌, ℕ, zero, suc, ◌+◌, ◌-◌, ◌<◌, ◌≤◌, Bool, true, false, cond, ◌&&◌, List, [], ◌∷◌, ◌++◌, length, map, get_or, drop, drop-cons, add-one, refl, sym, ◌∙◌, ap, subst, arith}
-use Rattle.std.specs.List.{list_all, range_with_len}
+use Rattle.std.proofs.Common.{◌≡◌, ℕ, suc, ◌+◌, ◌<◌, Bool, true, false, List, [], ◌∷◌, length, map, get_or, drop, drop-cons, add-one, refl, sym, ◌∙◌, ap, arith}
+use Rattle.std.specs.List.{list_all}
 use Rattle.std.proofs.lemmas.List.Sums.{AllPass-from_list_all}
 use Rattle.std.proofs.lemmas.List.{get_or_default, get_or-map}
 use Rattle.std.proofs.Math.Seq.{drop-length}
 use Rattle.xc_alg.specs.Operations.{Operations}
 use Rattle.xc_alg.specs.Bounds.{joined}
-use Rattle.xc_base.specs.Names.{place_of}
-use Rattle.xc_expr.specs.Actions.{allows}
 use Rattle.xc_expr.specs.declared.domain.Domain.{Domain}
-use Rattle.xc_view.specs.declared.lines.PropLine.{PropLine}
-use Rattle.xc_view.specs.declared.lines.Command.{Command}
-use Rattle.xc_top.specs.Framing.{command_code, guards, line_code, leads_to, tells_of, picked, AreStates}
+use Rattle.xc_top.specs.Framing.{picked, AreStates}
 use Rattle.xc_top.specs.Evaluating.{AreRows}
 use Rattle.xc_theory.specs.Codes.{AreDigits}
 use Rattle.xc_expr.specs.Variables.{sizes_of}

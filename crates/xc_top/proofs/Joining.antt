@@ -1,7 +1,7 @@
 -- What is picked of the commands and the lines of a view, and the frame that this makes.
-use Rattle.std.proofs.Common.{◌≡◌, ℕ, zero, suc, ◌+◌, ◌-◌, ◌<◌, ◌≤◌, Bool, true, false, not, ◌&&◌, List, [], ◌∷◌, ◌++◌, length, map, get_or, slice_index, Option, Some, None, refl, sym, ◌∙◌, ap, subst, arith}
-use Rattle.std.specs.List.{list_all, range_with_len, filter, find}
-use Rattle.xc_theory.specs.Lattices.{LatticeData, IsLawful, size, join, bottom}
+use Rattle.std.proofs.Common.{◌≡◌, ℕ, ◌≤◌, Bool, true, false, not, List, [], ◌∷◌, length, map, None, refl, sym, ◌∙◌, ap}
+use Rattle.std.specs.List.{list_all, filter, find}
+use Rattle.xc_theory.specs.Lattices.{LatticeData, IsLawful, size, join}
 use Rattle.xc_theory.specs.Bounds.{join_of}
 use Rattle.xc_alg.specs.Products.{product}
 use Rattle.xc_alg.specs.Bounds.{joined, AreElements}

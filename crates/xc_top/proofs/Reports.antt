@@ -1,12 +1,11 @@
 -- There is one text of the values of formulas, and one at most.
-use Rattle.std.proofs.Common.{◌≡◌, ℕ, zero, suc, ◌+◌, ◌-◌, ◌<◌, ◌≤◌, Bool, true, false, ◌&&◌, nat_le, List, [], ◌∷◌, ◌++◌, length, refl, sym, ◌∙◌, ap, subst, arith}
-use Rattle.std.specs.List.{list_all, range_with_len, flat_map, filter}
+use Rattle.std.proofs.Common.{◌≡◌, ℕ, zero, suc, ◌+◌, ◌-◌, ◌<◌, ◌≤◌, true, ◌&&◌, nat_le, List, [], ◌∷◌, ◌++◌, length, refl, sym, ◌∙◌, ap, arith}
+use Rattle.std.specs.List.{list_all, range_with_len, flat_map}
 use Rattle.std.proofs.lemmas.Bool.{and_parts, leb-true}
 use Rattle.xc_theory.specs.Chains.{IsHeight}
 use Rattle.xc_theory.proofs.Chains.{heights_are_unique}
 use Rattle.xc_lattice.specs.LatticeFiles.{LatticeValue}
 use Rattle.xc_view.specs.ViewFiles.{ViewValue}
-use Rattle.xc_view.specs.Meaning.{is_initial}
 use Rattle.xc_ctl.specs.Frames.{Frame}
 use Rattle.xc_ctl.specs.Tables.{is_table, are_ordered_from}
 use Rattle.xc_ctl.specs.declared.kind.Kind.{Kind}

@@ -1,14 +1,13 @@
 -- The parts of the text of the values of formulas.
-use Rattle.std.proofs.Common.{◌≡◌, ℕ, zero, suc, ◌+◌, ◌<◌, ◌≤◌, Bool, true, false, cond, slice_index, List, [], ◌∷◌, ◌++◌, length, map, get_or, drop, drop-cons, add-one, append_assoc, append-nil, codes, refl, sym, ◌∙◌, ap, subst, arith}
-use Rattle.std.specs.List.{range_with_len, slice_index_or, filter, flat_map}
+use Rattle.std.proofs.Common.{◌≡◌, ℕ, zero, suc, ◌+◌, ◌<◌, ◌≤◌, Bool, true, false, slice_index, List, [], ◌∷◌, ◌++◌, length, map, get_or, drop, add-one, append_assoc, append-nil, refl, sym, ◌∙◌, ap, arith}
+use Rattle.std.specs.List.{range_with_len, filter, flat_map}
 use Rattle.xc_theory.specs.Codes.{AreDigits}
-use Rattle.xc_base.specs.Names.{name_at}
 use Rattle.xc_expr.specs.Variables.{sizes_of}
 use Rattle.xc_expr.specs.declared.domain.Domain.{Domain}
 use Rattle.xc_view.specs.ViewFiles.{ViewValue}
 use Rattle.xc_view.specs.Meaning.{is_initial, row_at}
 use Rattle.xc_lattice.specs.LatticeFiles.{LatticeValue}
-use Rattle.std.proofs.lemmas.List.FromFn.{get_or-map-range_with_len, map-range_with_len_more}
+use Rattle.std.proofs.lemmas.List.FromFn.{get_or-map-range_with_len}
 use Rattle.xc_theory.proofs.Codes.{digits_are_in_range}
 use Rattle.xc_top.specs.Checks.{places_text, value_text, formula_text, formulas_text, states_of}
 use Rattle.xc_top.proofs.Framing.{drop_read}

@@ -1,10 +1,10 @@
 -- What holds of each view, part by part.
-use Rattle.std.proofs.Common.{◌≡◌, ℕ, ◌≤◌, Bool, true, ◌&&◌, nat_le, not, List, [], ◌∷◌, length, map, refl, sym, ap, subst}
+use Rattle.std.proofs.Common.{◌≡◌, ◌≤◌, true, List, [], ◌∷◌, length, map, refl}
 use Rattle.std.specs.List.{list_all}
 use Rattle.std.proofs.lemmas.Bool.{and_parts, and_from, leb-true}
 use Rattle.xc_expr.specs.Variables.{are_fit}
 use Rattle.xc_expr.specs.Tests.{is_in_range}
-use Rattle.xc_view.specs.ViewFiles.{ViewValue, PropValue, CommandValue, line_limit}
+use Rattle.xc_view.specs.ViewFiles.{ViewValue}
 use Rattle.xc_view.specs.Parts.{prop_value, command_value, is_prop_in, is_command_in, is_sound}
 use Rattle.xc_view.specs.declared.lines.PropLine.{PropLine}
 use Rattle.xc_view.specs.declared.lines.Command.{Command}
