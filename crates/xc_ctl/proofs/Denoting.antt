@@ -1,11 +1,10 @@
 -- The nodes of a table denote functions, one each, with elements as their values.
-use Rattle.std.proofs.Common.{◌≡◌, ℕ, zero, suc, ◌+◌, ◌-◌, ◌<◌, ◌≤◌, Bool, true, false, cond, ◌==◌, ◌&&◌, nat_lt, List, [], ◌∷◌, length, map, get_or, refl, sym, ◌∙◌, ap, subst, arith, inl, inr, ◌⊎◌, eqb}
-use Rattle.std.specs.List.{list_all, range_with_len, slice_index_or}
+use Rattle.std.proofs.Common.{◌≡◌, ℕ, zero, suc, ◌+◌, ◌<◌, ◌≤◌, true, false, cond, ◌==◌, List, [], ◌∷◌, length, map, refl, sym, ◌∙◌, ap, subst, arith, inl, inr, ◌⊎◌}
+use Rattle.std.specs.List.{range_with_len}
 use Rattle.std.proofs.lemmas.Bool.{and_parts, ltb-true, cases_lt}
 use Rattle.std.proofs.lemmas.List.Sums.{AllPass-from_list_all}
-use Rattle.xc_theory.specs.Codes.{total}
 use Rattle.xc_alg.specs.Operations.{Operations, IsAlgebra}
-use Rattle.xc_alg.specs.Products.{product, AreLawful, sizes, join_codes}
+use Rattle.xc_alg.specs.Products.{product, join_codes}
 use Rattle.xc_alg.specs.Bounds.{AreElements, joined}
 use Rattle.xc_alg.proofs.Products.{product_laws, digitwise_joins}
 use Rattle.xc_alg.proofs.AlgebraLaws.{joined_are_joins}

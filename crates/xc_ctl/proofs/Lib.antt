@@ -1,1 +1,17 @@
+pub mod Deciding
 pub mod Denoting
+pub mod ElementCodes
+pub mod Fixpoints
+pub mod FormulaReading
+pub mod Implications
+pub mod NameReading
+pub mod NameSteps
+pub mod Nodes
+pub mod ParserSteps
+pub mod Printing
+pub mod Ranges
+pub mod Reading
+pub mod Sizes
+pub mod TreeTables
+pub mod Verdicts
+pub mod WrittenOut

@@ -1,5 +1,5 @@
 -- Files of formulas, one on each line, and what they say: the table of each formula.
-use Rattle.std.specs.Prelude.{ℕ, ◌+◌, Bool, true, false, nat_lt, if◌then◌else◌, List, [], ◌∷◌, length, map, Option, Some, None, ◌≡◌}
+use Rattle.std.specs.Prelude.{ℕ, ◌+◌, false, nat_lt, if◌then◌else◌, List, [], ◌∷◌, length, map, Option, Some, None, ◌≡◌}
 use Rattle.std.specs.Option.{is_none}
 use Rattle.xc_base.specs.Formats.{Format, Excess, Row, IsFirstFault}
 use Rattle.xc_base.specs.declared.fault.Part.{Part}

@@ -2,7 +2,6 @@
 use Rattle.std.specs.Prelude.{◌<◌, ℕ, List, map}
 use Rattle.std.specs.List.{range_with_len}
 use Rattle.xc_theory.specs.Lattices.{LatticeData}
-use Rattle.xc_alg.specs.Operations.{Operations}
 use Rattle.xc_alg.specs.Products.{product, AreLawful, join_codes}
 use Rattle.xc_ctl.specs.declared.kind.Kind.{Kind}
 use Rattle.xc_ctl.specs.declared.kind.Kind.TheVariants.{Const, Atom, Not, And, Or, Ex}

@@ -4,7 +4,11 @@ pub mod Texts
 pub mod Tables
 pub mod FormulaFiles
 pub mod Formulas
+pub mod Deciding
+pub mod FormulaReading
+pub mod Printing
 pub mod Reading
+pub mod Resolving
 pub mod Frames
 pub mod Denotations
 pub mod Laws

@@ -58,7 +58,7 @@ abbrev pub are_ordered_from : ℕ → List Kind → Bool
 are_ordered_from k [] = true
 are_ordered_from k (node ∷ more) = has_children_below k node && are_ordered_from (suc k) more
 
--- 1 to 256 nodes, children before parents
+-- a node at least and not more than 256, each behind its children
 abbrev pub is_table : List Kind → Bool
 is_table nodes = nat_le 1 (length nodes) && nat_le (length nodes) 256 && are_ordered_from 0 nodes
 

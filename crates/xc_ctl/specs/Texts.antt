@@ -32,8 +32,8 @@ element_tokens n c =
     if c == n.bottom then codes "false" ∷ [] else
     codes "{" ∷ listed (digit_names n.parts (digits (sizes_of n.parts) c)) ++ codes "}" ∷ []
 
--- Brackets stand where an `|` is under `&`, an `|` or an `&` under `!` or `EX`, and where the right operand of `|` is an
--- `|`, or that of `&` an `&`.
+-- What binds less than the operator above it gets brackets. So does a right operand with the operator itself, since that groups
+-- to the left.
 abbrev pub tokens_of : Signature → Tree → List (List ℕ)
 tokens_of n (Const c) = element_tokens n c
 tokens_of n (Atom p) = name_at n.props p ∷ []

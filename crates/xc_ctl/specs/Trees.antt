@@ -1,5 +1,5 @@
 -- Formulas written out: with propositions and elements in place of names, and without abbreviations.
-use Rattle.std.specs.Prelude.{◌≡◌, ◌≢◌, ◌<◌, ◌≤◌, ℕ, Bool, true, ◌&&◌, not, nat_lt, nat_le, ◌==◌, List, [], ◌∷◌, length, map, Option, Some, None}
+use Rattle.std.specs.Prelude.{ℕ, Bool, ◌&&◌, not, nat_lt, nat_le, ◌==◌, List, [], ◌∷◌, length, map, Option, Some, None}
 use Rattle.std.specs.List.{list_all, position}
 use Rattle.std.specs.Option.{option_map}
 use Rattle.std.specs.Str.{bytes_eq}
@@ -23,8 +23,8 @@ sizes_of parts = map (λ (names : List (List ℕ)). length names) parts
 abbrev pub is_part : List (List ℕ) → Bool
 is_part names = nat_le 2 (length names) && nat_le (length names) 64 && not (has_twice names)
 
--- at most 256 different propositions; 1 to 8 parts of 2 to 64 different names, with at most 4,096 elements together; bottom
--- and top are two different ones of these
+-- Propositions have names of their own, and there are not more than 256. There is a part at least and eight at most, each of two
+-- to 64 names of its own. Together they have 4,096 elements at most, of which bottom and top are two different ones.
 abbrev pub is_fit : Signature → Bool
 is_fit n =
     nat_le (length n.props) 256 && not (has_twice n.props)

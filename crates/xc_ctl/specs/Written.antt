@@ -6,7 +6,7 @@ use Rattle.std.specs.Str.{bytes_eq}
 use Rattle.xc_base.specs.Names.{is_among}
 use Rattle.xc_base.specs.Words.{is_name}
 
--- the words of forms that are not read yet, and the words that no proposition has as its name
+-- the words of forms that are not read yet, and the words that are no proposition's name in a formula
 abbrev pub fixpoint_words : List (List ℕ)
 fixpoint_words = codes "EF" ∷ codes "AF" ∷ codes "EG" ∷ codes "AG" ∷ codes "E" ∷ codes "A" ∷ []
 
@@ -42,7 +42,7 @@ listed [] = []
 listed (name ∷ []) = name ∷ []
 listed (name ∷ next ∷ more) = name ∷ codes "," ∷ listed (next ∷ more)
 
--- The tokens are that formula, at that level, with at most so many operators and brackets around each other.
+-- The tokens are that formula, at that level, with at most so many `!`, `EX`, `AX` and brackets around each other.
 pub data IsSpelled : Level → ℕ → List (List ℕ) → Written → Type 0 where
   truth : (d : ℕ) → IsSpelled Basic d (codes "true" ∷ []) True
   falsity : (d : ℕ) → IsSpelled Basic d (codes "false" ∷ []) False
@@ -59,7 +59,7 @@ pub data IsSpelled : Level → ℕ → List (List ℕ) → Written → Type 0 wh
   conclusion : (d : ℕ) (tokens : List (List ℕ)) (f : Written) → IsSpelled Sum d tokens f → IsSpelled Implication d tokens f
   implies : (d : ℕ) (left right : List (List ℕ)) (f g : Written) → IsSpelled Sum d left f → IsSpelled Implication d right g → IsSpelled Implication d (left ++ codes "->" ∷ right) (Implies f g)
 
--- how many operators and brackets may stand around each other
+-- how many `!`, `EX`, `AX` and brackets may stand around each other
 abbrev pub depth_limit : ℕ
 depth_limit = 512
 

@@ -1,12 +1,28 @@
 //! Formulas of computation tree logic: how they are written, their tables of nodes, and what they mean on a frame.
 #![tactic(auto)]
 
+mod atom_parser;
+mod elements;
 mod formula;
 mod kind;
 mod laws;
+mod numbering;
+mod parser;
+mod phrase;
+mod printer;
 mod reader;
+mod resolver;
+mod rows;
+mod tree;
+mod verdict;
+mod vocabulary;
+mod words;
 
 pub use formula::{Formula, Formulas};
 pub use kind::Kind;
-pub use laws::formulas_have_one_denotation;
+pub use laws::{formulas_are_read, formulas_have_one_denotation};
 pub use reader::read_formulas;
+pub use verdict::files_have_one_reading;
+
+#[cfg(test)]
+mod tests;

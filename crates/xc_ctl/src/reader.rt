@@ -9,14 +9,17 @@ ghost use Rattle.xc_ctl.specs.FormulaFiles.{formula_format, IsStop};
 ghost use Rattle.xc_ctl.specs.Formulas.{nodes_in};
 
 use crate::formula::Formulas;
+use crate::rows::read_rows;
+use crate::vocabulary::Vocabulary;
 use std::alloc::Global;
-use xc_base::{Lines, List, Stop, Word};
+use xc_base::{FileFault, Lines, List, Part, Stop, Word};
 
 /// The formulas of a file that is cut into lines, one on each line.
 ///
 /// `props` are the names that propositions may have, `parts` the names of the elements of each part, and `bottom` and
 /// `top` the codes of the least and the greatest element of their product. It fails with the file's first fault, or where
 /// there is no memory.
+#[tactic(auto, using(std::proofs::lemmas::Grind::common_steps, crate::proofs::Reading::file_steps))]
 pub fn read_formulas(
     alloc: Global,
     lines: &Lines,
@@ -30,6 +33,17 @@ pub fn read_formulas(
     ensures range { IfOk result (λ fs. list_all (is_table_in (total (sizes_of parts.now)) (length props.now)) (nodes_in fs) ≡ true) }
     ensures err { IfErr result (IsStop (record { props = props.now; parts = parts.now; bottom = bottom; top = top }) (rows_in lines.now)) }
 {
-    let _alloc = alloc;
-    Err(Stop::Memory)
+    let vocabulary = Vocabulary {
+        props,
+        parts,
+        bottom,
+        top,
+    };
+    let items = read_rows(alloc, &vocabulary, lines)?;
+    if items.len() == 0 {
+        return Err(Stop::File(FileFault::Missing {
+            part: Part::Formula,
+        }));
+    }
+    Ok(Formulas { items })
 }

@@ -91,8 +91,8 @@ is_absent (Absent name) = true
 is_absent (Refusal line) = false
 is_absent (Served status text) = false
 
--- Where the counts of faults of the shelf and of out did not rise, the status is that of the outcome, but for want of
--- memory; and a load that is reached of a name that is not held is a read fault whatever the counts are.
+-- No call gives up: while the shelf and out count no fault, it ends as its outcome says or for want of memory. A load of a name
+-- that is not held ends it as a read fault, whatever was counted.
 pub record IsComplete (words : List (List ℕ)) (shelf shelf_after : Shelved) (old new : Sunk) (status : Status) : Type 0 where
   pub steady : has_risen shelf.faults shelf_after.faults ≡ false → has_risen old.faults new.faults ≡ false → status ≢ Memory → ForOutcome words shelf (λ outcome. is_absent outcome ≡ false → status ≡ status_of outcome)
   pub absent : status ≢ Memory → ForOutcome words shelf (λ outcome. is_absent outcome ≡ true → status ≡ ReadFault)

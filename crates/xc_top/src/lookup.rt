@@ -35,7 +35,7 @@ fn in_commands<'a>(names: &[Word], commands: &'a [Command]) -> Option<&'a Word>
     None
 }
 
-/// The first value of a view's propositions, then of its commands, that is no element of the lattice.
+/// A value that the lattice does not have: the first among the view's propositions, or else among its commands.
 #[tactic(auto, using(crate::proofs::LookingUp::unknown_in_props, crate::proofs::LookingUp::unknown_in_commands))]
 pub(crate) fn unknown<'a>(view: &'a View, lattice: &Lattice) -> Option<&'a Word>
     ensures { option_copied result ≡ unknown_value (view_of view.now) (lattice_of lattice.now) }

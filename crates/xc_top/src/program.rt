@@ -63,7 +63,7 @@ pub fn run<S: Shelf, W: Sink, E: Sink>(
 ) -> Status
     // Words exactly where the words are no request.
     ensures words { AnswersNoRequest (map string_bytes words.now.items) (W.seen out.old) (W.seen out.new) result }
-    // Refused only where the outcome is a refusal.
+    // A refusal is that of the outcome, with its line.
     ensures refusal { AnswersRefusal (map string_bytes words.now.items) (S.seen shelf.old) (W.seen out.old) (W.seen out.new) (E.seen err.old) (E.seen err.new) result }
     // Done and No only where the outcome is served so, with its whole text.
     ensures service { AnswersService (map string_bytes words.now.items) (S.seen shelf.old) (W.seen out.old) (W.seen out.new) result }

@@ -18,6 +18,7 @@ use Rattle.xc_expr.specs.Resolving.{resolved, resolved_action, sets_twice}
 use Rattle.xc_expr.specs.declared.domain.Domain.{Domain}
 use Rattle.xc_view.specs.ViewFiles.{Statement, View, Lattice, Var, Init, Prop, Command, IsStated, vars_of, is_view, is_lattice, is_due, is_behind_vars, is_repeated, is_unknown, is_prop, is_command, is_command_of, count_of, line_limit, line_excess, var_excess, excess_of, view_format}
 use Rattle.xc_view.specs.ViewFiles.IsStated.{view, lattice, var, init, prop, command}
+use Rattle.xc_expr.specs.Written.{is_variable_name, is_value_name}
 use Rattle.xc_view.specs.Drafts.{begins, is_named, is_known, command_names, AreSized, IsFair}
 use Rattle.xc_view.proofs.Sizes.{fit_from_sized}
 
@@ -60,7 +61,7 @@ begins_push (r ∷ t ∷ more) s b h = b
 named_from : {tokens : List (List ℕ)} {s : Statement} (before : List Statement) → IsStated tokens s → is_repeated before s ≡ false → is_named s ≡ true
 named_from before (view name h) r = h
 named_from before (lattice file h) r = h
-named_from before (var name value values h k) r = refl
+named_from before (var name value values h k) r = and_from (is_variable_name name) (list_all is_value_name (value ∷ values)) h k
 named_from before (init tokens guard g) r = refl
 named_from before (prop name value tokens guard n v g) r = and_from (is_name name) (is_name value) n v
 named_from before (command name value tokens more guard action n v g a) r =

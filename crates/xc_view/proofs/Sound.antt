@@ -10,12 +10,12 @@ use Rattle.xc_expr.specs.Variables.{are_fit}
 use Rattle.xc_expr.specs.Tests as tests
 use Rattle.xc_expr.specs.Tests.{is_in_range}
 use Rattle.xc_expr.specs.Actions.{is_action_in_range}
-use Rattle.xc_expr.specs.Written.{Written, Assigned}
+use Rattle.xc_expr.specs.Written.{Written, Assigned, is_variable_name, is_value_name}
 use Rattle.xc_expr.specs.Resolving.{resolved, resolved_action, sets_twice}
 use Rattle.xc_expr.specs.declared.domain.Domain.{Domain}
 use Rattle.xc_expr.specs.declared.assign.Assign.{Assign}
 use Rattle.xc_view.specs.ViewFiles.{Statement, View, Lattice, Var, Init, Prop, Command, CommandValue, ViewValue, vars_of, is_view, is_lattice, is_init, is_prop, is_command, count_of, line_limit, missing_part, test_in, assigns_in, first_name, first_lattice, first_init, props_of, commands_of, view_of}
-use Rattle.xc_view.specs.Parts.{is_prop_in, is_command_in, is_sound}
+use Rattle.xc_view.specs.Parts.{is_prop_in, is_command_in, is_named_var, is_sound}
 use Rattle.xc_view.specs.Drafts.{begins, is_named, command_names, IsFair}
 use Rattle.xc_view.proofs.Sizes.{fit_from_sized}
 use Rattle.xc_view.proofs.Expressions.{guards_in_range, actions_in_range}
@@ -56,7 +56,7 @@ module _ (v : ViewValue) (fit : are_fit v.vars ≡ true) where
   props_in [] h = refl
   props_in (View name ∷ ss) h = props_in ss (and_parts _ _ h).1
   props_in (Lattice file ∷ ss) h = props_in ss (and_parts _ _ h).1
-  props_in (Var name values ∷ ss) h = props_in ss h
+  props_in (Var name values ∷ ss) h = props_in ss (and_parts _ _ h).1
   props_in (Init guard ∷ ss) h = props_in ss h
   props_in (Prop name value guard ∷ ss) h =
       let parts = and_parts (is_name name && is_name value) (list_all is_named ss) h in
@@ -67,7 +67,7 @@ module _ (v : ViewValue) (fit : are_fit v.vars ≡ true) where
   commands_in [] h = refl
   commands_in (View name ∷ ss) h = commands_in ss (and_parts _ _ h).1
   commands_in (Lattice file ∷ ss) h = commands_in ss (and_parts _ _ h).1
-  commands_in (Var name values ∷ ss) h = commands_in ss h
+  commands_in (Var name values ∷ ss) h = commands_in ss (and_parts _ _ h).1
   commands_in (Init guard ∷ ss) h = commands_in ss h
   commands_in (Prop name value guard ∷ ss) h = commands_in ss (and_parts _ _ h).1
   commands_in (Command name value guard action ∷ ss) h =
@@ -106,6 +106,18 @@ commands_named vars (Var name values ∷ ss) = commands_named vars ss
 commands_named vars (Init guard ∷ ss) = commands_named vars ss
 commands_named vars (Prop name value guard ∷ ss) = commands_named vars ss
 commands_named vars (Command name value guard action ∷ ss) = ap (λ (names : List (List ℕ)). name ∷ names) (commands_named vars ss)
+
+-- the variables' names
+vars_named : (ss : List Statement) → list_all is_named ss ≡ true → list_all is_named_var (vars_of ss) ≡ true
+vars_named [] h = refl
+vars_named (View name ∷ ss) h = vars_named ss (and_parts _ _ h).1
+vars_named (Lattice file ∷ ss) h = vars_named ss (and_parts _ _ h).1
+vars_named (Var name values ∷ ss) h =
+    let parts = and_parts (is_variable_name name && list_all is_value_name values) (list_all is_named ss) h in
+    and_from _ _ parts.0 (vars_named ss parts.1)
+vars_named (Init guard ∷ ss) h = vars_named ss h
+vars_named (Prop name value guard ∷ ss) h = vars_named ss (and_parts _ _ h).1
+vars_named (Command name value guard action ∷ ss) h = vars_named ss (and_parts _ _ h).1
 
 -- what whole files have
 pub two_there : (ss : List Statement) → missing_part ss ≡ None → 2 ≤ length ss
@@ -167,4 +179,4 @@ view_is_sound ss h m =
     let ranged = and_from _ _ (and_from _ _ named fit) (init_in_range vars ss fit) in
     let props = and_from _ _ (and_from _ _ ranged (props_in (view_of ss) fit ss h.named)) (le-leb (length (props_of vars ss)) line_limit (omega (arith, props_counted vars ss, h.props))) in
     let commands = and_from _ _ (and_from _ _ props (commands_in (view_of ss) fit ss h.named)) (le-leb (length (commands_of vars ss)) line_limit (omega (arith, commands_counted vars ss, h.commands))) in
-    and_from _ _ commands (not_from_false _ (ap has_twice (commands_named vars ss) ∙ h.once))
+    and_from _ _ (and_from _ _ commands (not_from_false _ (ap has_twice (commands_named vars ss) ∙ h.once))) (vars_named ss h.named)

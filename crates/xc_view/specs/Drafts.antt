@@ -8,6 +8,7 @@ use Rattle.xc_base.specs.Names.{has_twice}
 use Rattle.xc_base.specs.Words.{is_name, is_file_word}
 use Rattle.xc_expr.specs.Variables.{names_of, sizes_of, is_domain, state_limit}
 use Rattle.xc_expr.specs.Resolving.{resolved, resolved_action, sets_twice}
+use Rattle.xc_expr.specs.Written.{is_variable_name, is_value_name}
 use Rattle.xc_expr.specs.declared.domain.Domain.{Domain}
 use Rattle.xc_view.specs.ViewFiles.{Statement, View, Lattice, Var, Init, Prop, Command, vars_of, is_view, is_lattice, is_prop, is_command, count_of, line_limit}
 use Rattle.xc_view.specs.Statements.{stated}
@@ -23,7 +24,7 @@ begins (s ∷ t ∷ more) = is_view s && is_lattice t
 abbrev pub is_named : Statement → Bool
 is_named (View name) = is_name name
 is_named (Lattice file) = is_file_word file
-is_named (Var name values) = true
+is_named (Var name values) = is_variable_name name && list_all is_value_name values
 is_named (Init guard) = true
 is_named (Prop name value guard) = is_name name && is_name value
 is_named (Command name value guard action) = is_name name && is_name value && not (sets_twice action)

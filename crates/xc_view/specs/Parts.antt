@@ -4,6 +4,8 @@ use Rattle.std.specs.List.{list_all}
 use Rattle.xc_base.specs.Names.{has_twice}
 use Rattle.xc_base.specs.Words.{is_name, is_file_word}
 use Rattle.xc_expr.specs.Variables.{are_fit}
+use Rattle.xc_expr.specs.Written.{is_variable_name, is_value_name}
+use Rattle.xc_expr.specs.declared.domain.Domain.{Domain}
 use Rattle.xc_expr.specs.Tests.{test_of, is_in_range}
 use Rattle.xc_expr.specs.Actions.{is_action_in_range}
 use Rattle.xc_view.specs.ViewFiles.{PropValue, CommandValue, ViewValue, line_limit}
@@ -23,11 +25,16 @@ is_prop_in v l = is_name l.name && is_name l.value && is_in_range v.vars l.guard
 abbrev pub is_command_in : ViewValue → CommandValue → Bool
 is_command_in v c = is_name c.name && is_name c.value && is_in_range v.vars c.guard && is_action_in_range v.vars c.action
 
--- All numbers are in range and all limits hold: fit variables, at most 256 lines of propositions and 256 commands, and
--- commands of different names.
+-- a variable and its values have names of their kind
+abbrev pub is_named_var : Domain → Bool
+is_named_var d = is_variable_name d.name && list_all is_value_name d.values
+
+-- What holds of each view: variables are fit, what is named by number is there, and there are at most 256 lines of
+-- propositions and 256 commands, of different names. Names are names, each of its kind.
 abbrev pub is_sound : ViewValue → Bool
 is_sound v =
     is_name v.name && is_file_word v.lattice && are_fit v.vars && is_in_range v.vars v.init
     && list_all (is_prop_in v) v.props && nat_le (length v.props) line_limit
     && list_all (is_command_in v) v.commands && nat_le (length v.commands) line_limit
     && not (has_twice (map (λ (c : CommandValue). c.name) v.commands))
+    && list_all is_named_var v.vars

@@ -8,8 +8,8 @@ use xc_expr::{Guard, Vars};
 
 /// What a stakeholder says of a system: its variables, where it begins, its propositions and its steps.
 ///
-/// Values stay words, to be looked up in the lattice that the view names. Variables and values of variables are in
-/// range, and all limits hold.
+/// Values stay words, to be looked up in the lattice that the view names. What is named by number is there, and nothing is
+/// longer or more than it may be.
 #[derive(Debug, Drop)]
 pub struct View {
     name: Word,
@@ -89,7 +89,7 @@ impl View {
         &self.commands
     }
 
-    /// All numbers of a view are in range, and all limits hold.
+    /// In a view what is named by number is there, and nothing is longer or more than it may be.
     pub fn is_sound(&self)
         ensures { is_sound (value_of self.now) ≡ true }
     {}

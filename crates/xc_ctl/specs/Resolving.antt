@@ -1,0 +1,45 @@
+-- How the words of formulas are looked up, and the trees of the code.
+-- Words for the steps of the code: public clauses do not rest on them.
+use Rattle.std.specs.Prelude.{ℕ, ◌+◌, ◌*◌, List, [], drop, Option}
+use Rattle.std.specs.List.{position, slice_index_or}
+use Rattle.std.specs.Option.{option_map}
+use Rattle.std.specs.Str.{bytes_eq}
+use Rattle.xc_theory.specs.Codes.{total}
+use Rattle.xc_base.specs.Names.{name_at}
+use Rattle.xc_ctl.specs.Trees.{Signature, Tree, Const, Atom, Not, And, Or, Ex, sizes_of, element_named}
+use Rattle.xc_ctl.specs.declared.vocabulary.Vocabulary.{Vocabulary}
+use Rattle.xc_ctl.specs.declared.tree.Tree.{Tree as Boxed}
+use Rattle.xc_ctl.specs.declared.tree.Tree.TheVariants as boxed
+
+-- the signature that a vocabulary of the code is
+abbrev pub signature : Vocabulary → Signature
+signature v = record { props = v.props.now; parts = v.parts.now; bottom = v.bottom; top = v.top }
+
+-- the tree that one of the code is
+abbrev pub tree_of : Boxed → Tree
+tree_of (boxed.Const c) = Const c
+tree_of (boxed.Atom p) = Atom p
+tree_of (boxed.Not' p t) = Not (tree_of t)
+tree_of (boxed.And' p s q t) = And (tree_of s) (tree_of t)
+tree_of (boxed.Or' p s q t) = Or (tree_of s) (tree_of t)
+tree_of (boxed.Ex' p t) = Ex (tree_of t)
+
+-- the names of the part at a place
+abbrev pub part_at : List (List (List ℕ)) → ℕ → List (List ℕ)
+part_at parts place = slice_index_or parts place []
+
+-- where the name at a place stands in the part at that place
+unfoldable pub digit_at : List (List (List ℕ)) → List (List ℕ) → ℕ → Option ℕ
+digit_at parts values place = position (bytes_eq (name_at values place)) (part_at parts place)
+
+-- how many elements the parts from a place on have together
+unfoldable pub total_from : List (List (List ℕ)) → ℕ → ℕ
+total_from parts place = total (sizes_of (drop place parts))
+
+-- the code that comes of the digits before a place, which come to a code, and the names from there on
+unfoldable pub element_from : ℕ → List (List (List ℕ)) → List (List ℕ) → ℕ → Option ℕ
+element_from code parts values place = option_map (λ rest. code * total (sizes_of (drop place parts)) + rest) (element_named (drop place parts) (drop place values))
+
+-- how many codes begin with digits that come to a code, and how many before those
+unfoldable pub room : ℕ → List (List (List ℕ)) → ℕ → ℕ
+room code parts place = (code + 1) * total (sizes_of (drop place parts))

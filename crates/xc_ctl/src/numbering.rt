@@ -1,0 +1,78 @@
+//! The table of a formula's nodes.
+
+ghost use Rattle.std.specs.Prelude.{◌≡◌, ◌+◌, ◌-◌, ◌≤◌, ◌++◌, length, IfOk, OnOk};
+ghost use Rattle.xc_ctl.specs.Tables.{size_of, nodes_from, nodes_of};
+ghost use Rattle.xc_ctl.specs.Resolving.{tree_of};
+
+use crate::kind::Kind;
+use crate::tree::Tree;
+use std::alloc::Global;
+use xc_base::{List, Memory};
+
+/// How many nodes a tree has.
+pub(crate) fn size(tree: &Tree) -> usize
+    requires { size_of (tree_of tree.now) ≤ 18446744073709551615 }
+    ensures { result ≡ size_of (tree_of tree.now) }
+{
+    match tree {
+        Tree::Const(_) | Tree::Atom(_) => 1,
+        Tree::Not(inner) | Tree::Ex(inner) => size(inner) + 1,
+        Tree::And(left, right) | Tree::Or(left, right) => size(left) + size(right) + 1,
+    }
+}
+
+/// The number of the last node.
+fn last(nodes: &List<Kind>) -> u16
+    requires some { 1 ≤ length nodes.now }
+    requires few { length nodes.now ≤ 256 }
+    ensures { result ≡ length nodes.now - 1 }
+{
+    (nodes.len() - 1) as u16
+}
+
+/// Appends the nodes of a tree.
+#[tactic(auto, using(std::proofs::lemmas::Grind::common_steps, crate::proofs::Nodes::node_steps))]
+fn push_nodes(tree: &Tree, nodes: &mut List<Kind>) -> Result<(), Memory>
+    requires { length nodes.old + size_of (tree_of tree.now) ≤ 256 }
+    ensures nodes { OnOk result (nodes.new ≡ nodes.old ++ nodes_from (length nodes.old) (tree_of tree.now)) }
+    ensures count { OnOk result (length nodes.new ≡ length nodes.old + size_of (tree_of tree.now)) }
+{
+    match tree {
+        Tree::Const(code) => nodes.push(Kind::Const(*code)),
+        Tree::Atom(place) => nodes.push(Kind::Atom(*place)),
+        Tree::Not(inner) => {
+            push_nodes(inner, nodes)?;
+            let child = last(nodes);
+            nodes.push(Kind::Not(child))
+        }
+        Tree::Ex(inner) => {
+            push_nodes(inner, nodes)?;
+            let child = last(nodes);
+            nodes.push(Kind::Ex(child))
+        }
+        Tree::And(left, right) => {
+            push_nodes(left, nodes)?;
+            let first = last(nodes);
+            push_nodes(right, nodes)?;
+            let second = last(nodes);
+            nodes.push(Kind::And(first, second))
+        }
+        Tree::Or(left, right) => {
+            push_nodes(left, nodes)?;
+            let first = last(nodes);
+            push_nodes(right, nodes)?;
+            let second = last(nodes);
+            nodes.push(Kind::Or(first, second))
+        }
+    }
+}
+
+/// The table of a tree.
+pub(crate) fn nodes_of(alloc: Global, tree: &Tree) -> Result<List<Kind>, Memory>
+    requires { size_of (tree_of tree.now) ≤ 256 }
+    ensures { IfOk result (λ nodes. nodes ≡ nodes_of (tree_of tree.now)) }
+{
+    let mut nodes = List::new(alloc);
+    push_nodes(tree, &mut nodes)?;
+    Ok(nodes)
+}

@@ -1,0 +1,222 @@
+//! The text of a formula that is written out.
+
+ghost use Rattle.std.specs.Prelude.{◌≡◌, ◌+◌, ◌<◌, ◌≤◌, ◌++◌, ◌∷◌, [], true, length, IfOk, OnOk};
+ghost use Rattle.std.specs.List.{list_all};
+ghost use Rattle.xc_theory.specs.Codes.{total};
+ghost use Rattle.xc_base.specs.Canonical.{spaced};
+ghost use Rattle.xc_base.specs.Lines.{texts};
+ghost use Rattle.xc_base.specs.Names.{name_at};
+ghost use Rattle.xc_base.specs.Words.{is_word};
+ghost use Rattle.xc_ctl.specs.Trees.{is_part, sizes_of};
+ghost use Rattle.xc_ctl.specs.Texts.{is_and, is_or, element_tokens, bracketed, tokens_of, text_of};
+ghost use Rattle.xc_ctl.specs.Resolving.{signature, tree_of, part_at};
+ghost use Rattle.xc_ctl.specs.Printing.{is_tree_in, is_joined, only_if, digits_from, element_braces, gap_after};
+
+use crate::elements::{part_at, text_at, total_from};
+use crate::tree::Tree;
+use crate::vocabulary::Vocabulary;
+use std::alloc::Global;
+use xc_base::{Bytes, Lexeme, List, Memory, Word, is_word_text};
+
+type Tokens<'v> = List<Lexeme<'v>>;
+
+/// Appends a token.
+#[tactic(auto, using(crate::proofs::Printing::texts_more))]
+fn push<'v>(tokens: &mut Tokens<'v>, text: &'v [u8]) -> Result<(), Memory>
+    ensures { OnOk result (texts tokens.new ≡ texts tokens.old ++ text.now ∷ []) }
+{
+    let word = is_word_text(text);
+    tokens.push(Lexeme { text, word })
+}
+
+/// Appends a token, where it is wanted.
+#[tactic(auto, using(crate::proofs::Printing::none_more))]
+fn push_if<'v>(tokens: &mut Tokens<'v>, text: &'v [u8], wanted: bool) -> Result<(), Memory>
+    ensures { OnOk result (texts tokens.new ≡ texts tokens.old ++ only_if wanted text.now) }
+{
+    if wanted { push(tokens, text) } else { Ok(()) }
+}
+
+/// The name of a digit in the part at a place.
+fn digit_name(parts: &List<List<Word>>, place: usize, digit: u16) -> &[u8]
+    requires place { place < length parts.now }
+    requires digit { digit < length (part_at parts.now place) }
+    ensures { result.now ≡ name_at (part_at parts.now place) digit }
+{
+    part_at(parts, place)[usize::from(digit)]
+        .as_str()
+        .as_bytes()
+}
+
+/// Appends the names of an element's digits, with a `,` between two.
+#[tactic(auto, using(std::proofs::lemmas::Grind::common_steps, crate::proofs::Printing::digit_steps))]
+fn push_digits<'v>(
+    parts: &'v List<List<Word>>,
+    code: u16,
+    tokens: &mut Tokens<'v>,
+) -> Result<(), Memory>
+    requires fit { list_all is_part parts.now ≡ true }
+    requires few { total (sizes_of parts.now) ≤ 4096 }
+    requires code { code < total (sizes_of parts.now) }
+    ensures { OnOk result (texts tokens.new ≡ texts tokens.old ++ digits_from parts.now 0 code) }
+{
+    let mut rest = code;
+    for place in 0..parts.len() {
+        let weight = total_from(parts, place + 1);
+        push(tokens, digit_name(parts, place, rest / weight))?;
+        push_if(tokens, b",", place + 1 < parts.len())?;
+        rest %= weight;
+    }
+    Ok(())
+}
+
+#[tactic(auto, using(crate::proofs::ElementCodes::fit_parts, crate::proofs::ElementCodes::fit_total, crate::proofs::Printing::braces_are))]
+fn push_braces<'v>(
+    vocabulary: &Vocabulary<'v>,
+    code: u16,
+    tokens: &mut Tokens<'v>,
+) -> Result<(), Memory>
+    requires { code < total (sizes_of vocabulary.now.parts.now) }
+    ensures { OnOk result (texts tokens.new ≡ texts tokens.old ++ element_braces vocabulary.now.parts.now code) }
+{
+    push(tokens, b"{")?;
+    push_digits(vocabulary.parts, code, tokens)?;
+    push(tokens, b"}")
+}
+
+/// Appends the tokens of an element.
+#[tactic(auto, unfolding(crate::specs::Printing::element_braces, crate::specs::Printing::digits_from))]
+fn push_element<'v>(
+    vocabulary: &Vocabulary<'v>,
+    code: u16,
+    tokens: &mut Tokens<'v>,
+) -> Result<(), Memory>
+    requires { code < total (sizes_of vocabulary.now.parts.now) }
+    ensures { OnOk result (texts tokens.new ≡ texts tokens.old ++ element_tokens (signature vocabulary.now) code) }
+{
+    if code == vocabulary.top {
+        push(tokens, b"true")
+    } else if code == vocabulary.bottom {
+        push(tokens, b"false")
+    } else {
+        push_braces(vocabulary, code, tokens)
+    }
+}
+
+/// The name of a proposition.
+fn prop_name<'v>(vocabulary: &Vocabulary<'v>, place: u16) -> &'v [u8]
+    requires { place < length vocabulary.now.props.now }
+    ensures { result.now ≡ name_at vocabulary.now.props.now place }
+{
+    vocabulary.props.as_slice()[usize::from(place)]
+        .as_str()
+        .as_bytes()
+}
+
+fn is_or(tree: &Tree) -> bool
+    ensures { result ≡ is_or (tree_of tree.now) }
+{
+    matches!(tree, Tree::Or(..))
+}
+
+fn is_joined(tree: &Tree) -> bool
+    ensures { result ≡ is_joined (tree_of tree.now) }
+{
+    matches!(tree, Tree::And(..) | Tree::Or(..))
+}
+
+/// Appends the tokens of a tree, in brackets where they are wanted.
+#[tactic(auto, using(crate::proofs::Printing::tree_steps))]
+#[cycle(printer)]
+fn push_operand<'v>(
+    tree: &Tree,
+    vocabulary: &Vocabulary<'v>,
+    brackets: bool,
+    tokens: &mut Tokens<'v>,
+) -> Result<(), Memory>
+    requires { is_tree_in (total (sizes_of vocabulary.now.parts.now)) (length vocabulary.now.props.now) (tree_of tree.now) ≡ true }
+    ensures { OnOk result (texts tokens.new
+        ≡ texts tokens.old ++ bracketed brackets (tokens_of (signature vocabulary.now) (tree_of tree.now))) }
+{
+    push_if(tokens, b"(", brackets)?;
+    push_tree(tree, vocabulary, tokens)?;
+    push_if(tokens, b")", brackets)
+}
+
+/// Appends the tokens of a tree.
+#[tactic(auto, using(crate::proofs::Printing::tree_steps))]
+#[cycle(printer)]
+fn push_tree<'v>(
+    tree: &Tree,
+    vocabulary: &Vocabulary<'v>,
+    tokens: &mut Tokens<'v>,
+) -> Result<(), Memory>
+    requires { is_tree_in (total (sizes_of vocabulary.now.parts.now)) (length vocabulary.now.props.now) (tree_of tree.now) ≡ true }
+    ensures { OnOk result (texts tokens.new ≡ texts tokens.old ++ tokens_of (signature vocabulary.now) (tree_of tree.now)) }
+{
+    match tree {
+        Tree::Const(code) => push_element(vocabulary, *code, tokens),
+        Tree::Atom(place) => push(tokens, prop_name(vocabulary, *place)),
+        Tree::Not(inner) => {
+            push(tokens, b"!")?;
+            push_operand(inner, vocabulary, is_joined(inner), tokens)
+        }
+        Tree::Ex(inner) => {
+            push(tokens, b"EX")?;
+            push_operand(inner, vocabulary, is_joined(inner), tokens)
+        }
+        Tree::And(left, right) => {
+            push_operand(left, vocabulary, is_or(left), tokens)?;
+            push(tokens, b"&")?;
+            push_operand(right, vocabulary, is_joined(right), tokens)
+        }
+        Tree::Or(left, right) => {
+            push_tree(left, vocabulary, tokens)?;
+            push(tokens, b"|")?;
+            push_operand(right, vocabulary, is_or(right), tokens)
+        }
+    }
+}
+
+#[tactic(auto, using(crate::proofs::Printing::no_word))]
+fn is_word_at(tokens: &[Lexeme], place: usize) -> bool
+    ensures { result ≡ is_word (name_at (texts tokens.now) place) }
+{
+    place < tokens.len() && is_word_text(text_at(tokens, place))
+}
+
+/// Appends a blank, where both the token at a place and the one behind it are words.
+#[tactic(auto, unfolding(crate::specs::Printing::gap_after))]
+fn push_gap(text: &mut Bytes, tokens: &[Lexeme], place: usize) -> Result<(), Memory>
+    requires { place < length tokens.now }
+    ensures { OnOk result (text.new ≡ text.old ++ gap_after (texts tokens.now) place) }
+{
+    if is_word_at(tokens, place) && is_word_at(tokens, place + 1) {
+        text.push(b' ')
+    } else {
+        Ok(())
+    }
+}
+
+/// The tokens as a text, with blanks where they are needed.
+#[tactic(auto, using(std::proofs::lemmas::Grind::common_steps, crate::proofs::Printing::spaced_steps))]
+fn spaced(alloc: Global, tokens: &[Lexeme]) -> Result<Bytes, Memory>
+    ensures { IfOk result (λ text. text ≡ spaced (texts tokens.now)) }
+{
+    let mut text = List::new(alloc);
+    for place in 0..tokens.len() {
+        text.extend(text_at(tokens, place))?;
+        push_gap(&mut text, tokens, place)?;
+    }
+    Ok(text)
+}
+
+/// The text of a tree.
+pub(crate) fn text_of(alloc: Global, tree: &Tree, vocabulary: &Vocabulary) -> Result<Bytes, Memory>
+    requires { is_tree_in (total (sizes_of vocabulary.now.parts.now)) (length vocabulary.now.props.now) (tree_of tree.now) ≡ true }
+    ensures { IfOk result (λ text. text ≡ text_of (signature vocabulary.now) (tree_of tree.now)) }
+{
+    let mut tokens = List::new(alloc);
+    push_tree(tree, vocabulary, &mut tokens)?;
+    spaced(alloc, tokens.as_slice())
+}

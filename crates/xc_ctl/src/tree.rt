@@ -1,0 +1,11 @@
+/// A formula written out: with places and codes in place of names, and without abbreviations.
+#[derive(Debug, Drop)]
+pub(crate) enum Tree {
+    Const(u16),
+    Atom(u16),
+    Not(Box<Tree>),
+    And(Box<Tree>, Box<Tree>),
+    Or(Box<Tree>, Box<Tree>),
+    /// What holds at some next state.
+    Ex(Box<Tree>),
+}
