@@ -5,7 +5,6 @@ use Rattle.std.specs.Option.{option_or, option_copied}
 use Rattle.std.proofs.lemmas.List.Folds.{find-append}
 use Rattle.xc_base.specs.Names.{is_among}
 use Rattle.xc_view.specs.ViewFiles.{ViewValue, PropValue, CommandValue}
-use Rattle.std.proofs.lemmas.Bool.{and_parts}
 use Rattle.xc_theory.specs.Codes.{total}
 use Rattle.xc_expr.specs.Variables.{sizes_of, is_domain, are_fit, state_limit}
 use Rattle.xc_expr.proofs.Counting.{fit_domains, fit_states}
@@ -13,6 +12,7 @@ use Rattle.xc_view.specs.Parts.{prop_value, command_value, is_sound}
 use Rattle.xc_view.specs.declared.lines.PropLine.{PropLine}
 use Rattle.xc_view.specs.declared.lines.Command.{Command}
 use Rattle.xc_lattice.specs.LatticeFiles.{LatticeValue}
+use Rattle.xc_top.proofs.Sound.{sound_parts}
 use Rattle.xc_top.specs.Checks.{unknown_value}
 
 -- the first of the lines from a place on, and the others
@@ -60,9 +60,7 @@ module _ (v : ViewValue) (l : LatticeValue) (names : List (List ℕ)) (lines : L
 
 -- the variables of a sound view
 sound_fit : (v : ViewValue) → is_sound v ≡ true → are_fit v.vars ≡ true
-sound_fit v h =
-    let a = and_parts _ _ (and_parts _ _ (and_parts _ _ (and_parts _ _ (and_parts _ _ h).0).0).0).0 in
-    (and_parts _ _ (and_parts _ _ a.0).0).1
+sound_fit v h = (sound_parts v h).fit
 
 pub sound_domains : (v : ViewValue) → is_sound v ≡ true → list_all is_domain v.vars ≡ true
 sound_domains v h = fit_domains v.vars (sound_fit v h)

@@ -20,7 +20,8 @@ pub record Sound (v : ViewValue) : Type 0 where
 
 pub sound_parts : (v : ViewValue) → is_sound v ≡ true → Sound v
 sound_parts v h =
-    let eight = (and_parts _ _ h).0 in
+    let nine = (and_parts _ _ h).0 in
+    let eight = (and_parts _ _ nine).0 in
     let seven = and_parts _ _ eight in
     let six = and_parts _ _ seven.0 in
     let five = and_parts _ _ six.0 in
