@@ -22,6 +22,7 @@ ends_differ l lawful several e =
     let one_is : 1 ≡ bottom l = only_one l lawful several e 1 (omega arith) in
     omega arith
 
+-- names of propositions that are different and few are fit
 pub signature_fit : (l : LatticeValue) (props : List (List ℕ)) (parts : List (List (List ℕ))) (b t : ℕ) → IsFit l → length props ≤ 256 → has_twice props ≡ false → parts ≡ l.names ∷ [] → b ≡ bottom l.algebra → t ≡ top l.algebra
     → is_fit (record { props = props; parts = parts; bottom = b; top = t }) ≡ true
 signature_fit l props parts b t fit few once is low high =
