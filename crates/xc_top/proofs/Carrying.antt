@@ -1,5 +1,5 @@
 -- Denotations over a frame that is told by rows are those over the frame that the rows are of.
-use Rattle.std.proofs.Common.{◌≡◌, ℕ, zero, suc, ◌+◌, ◌-◌, ◌<◌, ◌≤◌, Bool, true, List, [], ◌∷◌, ◌++◌, length, map, take, get_or, slice_index, refl, sym, ◌∙◌, ap, subst, arith}
+use Rattle.std.proofs.Common.{◌≡◌, ℕ, zero, suc, ◌+◌, ◌<◌, ◌≤◌, Bool, true, List, [], ◌∷◌, ◌++◌, length, map, take, get_or, slice_index, refl, sym, ◌∙◌, ap, arith}
 use Rattle.std.specs.List.{list_all, range_with_len}
 use Rattle.std.proofs.lemmas.Bool.{and_parts, ltb-true}
 use Rattle.std.proofs.lemmas.List.{get_or-map, length-map, map-append, take_more}
@@ -7,7 +7,6 @@ use Rattle.std.proofs.lemmas.List.Sums.{AllPass-from_list_all}
 use Rattle.xc_theory.specs.Lattices.{LatticeData}
 use Rattle.xc_alg.specs.Products.{product, join_codes}
 use Rattle.xc_ctl.specs.Frames.{Frame, some_next, step_at}
-use Rattle.xc_ctl.specs.Denotations.{Denotes, AreDenotations}
 use Rattle.xc_ctl.specs.Tables.{node_at, is_kind_in, is_table_in}
 use Rattle.xc_ctl.specs.declared.kind.Kind.{Kind}
 use Rattle.xc_ctl.specs.declared.kind.Kind.TheVariants.{Const, Atom, Not, And, Or, Ex}
@@ -21,6 +20,7 @@ frame_by parts n r k p = record { parts = parts; states = n; relation = r; props
 module _ (parts : List LatticeData) (n k : ℕ) (r q p o : ℕ → ℕ → ℕ)
     (steps : (s t : ℕ) → s < n → t < n → r s t ≡ q s t)
     (props : (x s : ℕ) → x < k → s < n → p x s ≡ o x s) where
+  -- what the states weigh is the same
   weighed_same : (f : ℕ → ℕ) (s i m : ℕ) → s < n → i + m ≤ n → map (λ t. (product parts).meet (r s t) (f t)) (range_with_len i m) ≡ map (λ t. (product parts).meet (q s t) (f t)) (range_with_len i m)
   weighed_same f s i zero low h = refl
   weighed_same f s i (suc m) low h =
@@ -28,10 +28,12 @@ module _ (parts : List LatticeData) (n k : ℕ) (r q p o : ℕ → ℕ → ℕ)
       let more = weighed_same f s (i + 1) m low (omega arith) in
       rw (first, more) refl
 
+  -- so is what holds at some next state
   next_same : (f : ℕ → ℕ) (s : ℕ) → s < n → some_next (frame_by parts n r k p) f s ≡ some_next (frame_by parts n q k o) f s
   unfolding some_next
   next_same f s low = ap (join_codes parts) (weighed_same f s 0 n low (omega arith))
 
+  -- so is the value of a node at a state
   step_same : (size : ℕ) (kind : Kind) (a b : ℕ → ℕ) (s : ℕ) → is_kind_in size k kind ≡ true → s < n → step_at (frame_by parts n r k p) kind a b s ≡ step_at (frame_by parts n q k o) kind a b s
   step_same size (Const c) a b s h low = refl
   step_same size (Atom x) a b s h low = props x s (ltb-true x k h) low
@@ -40,6 +42,7 @@ module _ (parts : List LatticeData) (n k : ℕ) (r q p o : ℕ → ℕ → ℕ)
   step_same size (Or i j) a b s h low = refl
   step_same size (Ex i) a b s h low = next_same a s low
 
+  -- so is what a formula denotes
   denoted_same : (size : ℕ) (nodes : List Kind) (f : ℕ → ℕ) → is_table_in size k nodes ≡ true → IsDenoted (frame_by parts n r k p) nodes f → IsDenoted (frame_by parts n q k o) nodes f
   denoted_same size nodes f h is =
       record {

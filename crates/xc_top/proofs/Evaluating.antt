@@ -1,8 +1,7 @@
 -- The values of nodes over a frame that is told by rows of codes.
-use Rattle.std.proofs.Common.{◌≡◌, ℕ, zero, suc, ◌+◌, ◌-◌, ◌<◌, ◌≤◌, true, nat_lt, List, [], ◌∷◌, ◌++◌, length, map, get_or, slice_index, refl, sym, ◌∙◌, ap, subst, arith, inl, inr, ◌⊎◌, add-one, cond}
+use Rattle.std.proofs.Common.{◌≡◌, ℕ, suc, ◌+◌, ◌-◌, ◌<◌, ◌≤◌, true, nat_lt, List, [], ◌∷◌, ◌++◌, length, map, get_or, slice_index, refl, sym, ◌∙◌, ap, subst, arith, inl, inr, ◌⊎◌}
 use Rattle.std.specs.List.{range_with_len, slice_index_or}
 use Rattle.xc_alg.specs.Operations.{Operations}
-use Rattle.xc_alg.specs.Bounds.{joined}
 use Rattle.std.proofs.lemmas.Bool.{ltb-true, cases_lt}
 use Rattle.std.proofs.lemmas.List.{get_or_default, get_or_append_left, get_or_push, length_push}
 use Rattle.std.proofs.lemmas.List.FromFn.{get_or-map-range_with_len, map-range_with_len_more}
@@ -12,7 +11,7 @@ use Rattle.xc_alg.proofs.AlgebraLaws.{meet_commutes, meet_with_bottom, join_comm
 use Rattle.xc_alg.specs.Products.{product, AreLawful}
 use Rattle.xc_alg.specs.Tables.{entry}
 use Rattle.xc_theory.specs.Lattices.{LatticeData}
-use Rattle.xc_ctl.specs.Frames.{Frame, IsFrame, weighed, some_next}
+use Rattle.xc_ctl.specs.Frames.{Frame, IsFrame, some_next}
 use Rattle.xc_ctl.proofs.Denoting.{next_joined, node_value, ordered_child}
 use Rattle.xc_ctl.specs.Denotations.{Denotes, AreDenotations}
 use Rattle.xc_ctl.specs.Tables.{first_child, second_child, node_at, has_children_below, are_ordered_from, is_kind_in, is_table_in}
@@ -40,9 +39,11 @@ weighs_nothing o step value sum laws e value_in sum_in =
 pub row_there : (i n : ℕ) → nat_lt i n ≡ true → i < n
 row_there i n h = ltb-true i n h
 
+-- such a row has a code at each state
 pub state_there : (size n : ℕ) (rows : List (List ℕ)) (i s : ℕ) → AreRows size n rows → nat_lt i (length rows) ≡ true → s < n → s < length (slice_index_or rows i [])
 state_there size n rows i s are h low = omega (arith, are.lengths i (ltb-true i (length rows) h))
 
+-- and that code is an element
 pub code_below : (size n : ℕ) (rows : List (List ℕ)) (i s : ℕ) → AreRows size n rows → nat_lt i (length rows) ≡ true → s < n → entry rows i s < size
 code_below size n rows i s are h low = are.range i s (ltb-true i (length rows) h) low
 
@@ -77,13 +78,16 @@ next_by parts steps props rows child j s x r q row values lawful ready h low sam
 pub no_row : (size : ℕ) → IsRow size 0 []
 no_row size = record { count = refl; range = λ s low. absurd (omega arith) }
 
+-- each code of a row with one code more is an element
 more_below : (size k x : ℕ) (row : List ℕ) → IsRow size k row → x < size → (s : ℕ) → s < k + 1 → ((s < k) ⊎ (k ≤ s)) → slice_index (row ++ x ∷ []) s < size
 more_below size k x row is low s within (inl before) = rw (get_or_append_left row (x ∷ []) 0 s (omega (arith, is.count))) (is.range s before)
 more_below size k x row is low s within (inr here) = rw (get_or_push row x 0 s (omega (arith, is.count))) low
 
+-- a row with one code more
 pub row_more : (size k x : ℕ) (row : List ℕ) → IsRow size k row → x < size → IsRow size (k + 1) (row ++ x ∷ [])
 row_more size k x row is low = record { count = omega (arith, length_push row x, is.count); range = λ s within. more_below size k x row is low s within (cases_lt s k) }
 
+-- the same of what a push leaves
 pub row_pushed : (size k x : ℕ) (row new : List ℕ) → IsRow size k row → x < size → new ≡ row ++ x ∷ [] → IsRow size (k + 1) new
 row_pushed size k x row new is low e = rw e (row_more size k x row is low)
 
@@ -95,12 +99,15 @@ value_pushed f k x row new is value e = rw (e, is, value) (sym (map-range_with_l
 pub ready_first : (frame : Frame) (nodes : List Kind) (size : ℕ) (steps props rows : List (List ℕ)) → size ≡ (product frame.parts).size → frame.states ≡ length steps → AreRows size (length steps) steps → AreRows size (length steps) props → AreValues frame nodes rows → AreReady size steps props rows
 ready_first frame nodes size steps props rows e n a b values = record { steps_are = a; props_are = b; rows_are = rw (e, sym n) values.shape }
 
+-- the children of the next node are among the first nodes
 pub child_first : (nodes : List Kind) (i n : ℕ) → are_ordered_from 0 nodes ≡ true → i < length nodes → n ≡ i → has_children_below n (node_at nodes i) ≡ true
 child_first nodes i n h low e = rw e (ordered_child nodes i h low)
 
+-- the next node speaks of elements and propositions
 pub kind_first : (size props i : ℕ) (nodes : List Kind) → is_table_in size props nodes ≡ true → i < length nodes → is_kind_in size props (node_at nodes i) ≡ true
 kind_first size props i nodes h low = AllPass-from_list_all (is_kind_in size props) nodes h i (Const 0) low
 
+-- before the first node there is nothing to show
 pub no_values : (frame : Frame) (nodes : List Kind) → AreValues frame nodes []
 no_values frame nodes = record { shape = record { lengths = λ i low. absurd (omega arith); range = λ i s low. absurd (omega arith) }; node = λ i low. absurd (omega arith) }
 
@@ -108,17 +115,21 @@ no_values frame nodes = record { shape = record { lengths = λ i low. absurd (om
 old_row : (rows : List (List ℕ)) (row : List ℕ) (i s : ℕ) → i < length rows → entry (rows ++ row ∷ []) i s ≡ entry rows i s
 old_row rows row i s h = rw (get_or_append_left rows (row ∷ []) [] i h) refl
 
+-- what stands in the new row
 new_row : (rows : List (List ℕ)) (row : List ℕ) (i s : ℕ) → length rows ≡ i → entry (rows ++ row ∷ []) i s ≡ slice_index row s
 new_row rows row i s h = rw (get_or_push rows row [] i h) refl
 
+-- all rows, the new one too, have a code for each state
 rows_lengths : (size n : ℕ) (rows : List (List ℕ)) (row : List ℕ) → AreRows size n rows → IsRow size n row → (i : ℕ) → i < length (rows ++ row ∷ []) → ((i < length rows) ⊎ (length rows ≤ i)) → length (slice_index_or (rows ++ row ∷ []) i []) ≡ n
 rows_lengths size n rows row are is i h (inl before) = rw (get_or_append_left rows (row ∷ []) [] i before) (are.lengths i before)
 rows_lengths size n rows row are is i h (inr here) = rw (get_or_push rows row [] i (omega (arith, length_push rows row))) is.count
 
+-- and these are elements
 rows_range : (size n : ℕ) (rows : List (List ℕ)) (row : List ℕ) → AreRows size n rows → IsRow size n row → (i s : ℕ) → i < length (rows ++ row ∷ []) → s < n → ((i < length rows) ⊎ (length rows ≤ i)) → entry (rows ++ row ∷ []) i s < size
 rows_range size n rows row are is i s h low (inl before) = rw (old_row rows row i s before) (are.range i s before low)
 rows_range size n rows row are is i s h low (inr here) = rw (new_row rows row i s (omega (arith, length_push rows row))) (is.range s low)
 
+-- so a table with one row more is one
 pub rows_more : (size n : ℕ) (rows : List (List ℕ)) (row : List ℕ) → AreRows size n rows → IsRow size n row → AreRows size n (rows ++ row ∷ [])
 rows_more size n rows row are is =
     record { lengths = λ i h. rows_lengths size n rows row are is i h (cases_lt i (length rows)); range = λ i s h low. rows_range size n rows row are is i s h low (cases_lt i (length rows)) }
@@ -141,6 +152,7 @@ more_denoted frame nodes rows row ordered values room e i h within (inr here) =
           ∙ get_or-map-range_with_len (value_of_node frame rows (node_at nodes i)) 0 frame.states s s 0 low (omega arith);
     })
 
+-- the values of the nodes up to the next one
 pub values_more : (frame : Frame) (nodes : List Kind) (rows read new : List (List ℕ)) (row : List ℕ) (i : ℕ) → are_ordered_from 0 nodes ≡ true → AreValues frame nodes rows → length rows ≡ i → i < length nodes → read ≡ rows
     → IsRow (product frame.parts).size frame.states row → row ≡ map (value_of_node frame read (node_at nodes i)) (range_with_len 0 frame.states) → new ≡ rows ++ row ∷ [] → AreValues frame nodes new
 values_more frame nodes rows read new row i ordered values count low same is e grown =
@@ -155,5 +167,6 @@ values_more frame nodes rows read new row i ordered values count low same is e g
 pub are_denoted : (frame : Frame) (nodes : List Kind) (rows : List (List ℕ)) → AreValues frame nodes rows → length rows ≡ length nodes → AreDenotations frame nodes (entry rows)
 are_denoted frame nodes rows values count = record { node = λ i within. values.node i (omega arith) within }
 
+-- a table with the row that a push leaves
 pub rows_pushed : (size n : ℕ) (rows new : List (List ℕ)) (row : List ℕ) → AreRows size n rows → IsRow size n row → new ≡ rows ++ row ∷ [] → AreRows size n new
 rows_pushed size n rows new row are is e = rw e (rows_more size n rows row are is)

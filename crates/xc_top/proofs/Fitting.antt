@@ -1,6 +1,5 @@
 -- What formulas over a view and its lattice are about is fit to be read.
-use Rattle.std.proofs.Common.{◌≡◌, ℕ, ◌+◌, ◌*◌, ◌<◌, ◌≤◌, Bool, true, false, not, ◌&&◌, ◌==◌, nat_le, nat_lt, eqb, List, [], ◌∷◌, length, refl, sym, ◌∙◌, ap, subst, arith}
-use Rattle.std.specs.List.{list_all}
+use Rattle.std.proofs.Common.{◌≡◌, ℕ, ◌*◌, ◌<◌, ◌≤◌, true, false, not, ◌==◌, nat_lt, List, [], ◌∷◌, length, refl, sym, ◌∙◌, ap, subst, arith}
 use Rattle.std.proofs.lemmas.Bool.{and_from, le-leb, lt-ltb, ne_eqb}
 use Rattle.xc_theory.specs.Lattices.{LatticeData, IsLawful, size, bottom, top, below}
 use Rattle.xc_alg.specs.Operations.{IsAlgebra}
@@ -23,6 +22,7 @@ ends_differ l lawful several e =
     let one_is : 1 ≡ bottom l = only_one l lawful several e 1 (omega arith) in
     omega arith
 
+-- names of propositions that are different and few are fit
 pub signature_fit : (l : LatticeValue) (props : List (List ℕ)) (parts : List (List (List ℕ))) (b t : ℕ) → IsFit l → length props ≤ 256 → has_twice props ≡ false → parts ≡ l.names ∷ [] → b ≡ bottom l.algebra → t ≡ top l.algebra
     → is_fit (record { props = props; parts = parts; bottom = b; top = t }) ≡ true
 signature_fit l props parts b t fit few once is low high =

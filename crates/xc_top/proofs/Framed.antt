@@ -1,14 +1,11 @@
 -- The rows that are taken of a view are those of its frame.
-use Rattle.std.proofs.Common.{◌≡◌, ℕ, zero, suc, ◌+◌, ◌<◌, ◌≤◌, Bool, true, List, [], ◌∷◌, ◌++◌, length, map, get_or, slice_index, Option, None, refl, sym, ◌∙◌, ap, subst, arith}
-use Rattle.std.specs.List.{list_all, range_with_len, filter, find, slice_index_or}
+use Rattle.std.proofs.Common.{◌≡◌, ℕ, zero, suc, ◌<◌, ◌≤◌, Bool, true, List, [], ◌∷◌, ◌++◌, length, map, get_or, slice_index, None, refl, sym, ◌∙◌, ap, subst, arith}
+use Rattle.std.specs.List.{list_all, range_with_len, filter, slice_index_or}
 use Rattle.std.proofs.lemmas.Bool.{and_parts}
-use Rattle.std.proofs.lemmas.List.{get_or_default, get_or-map, length-map}
+use Rattle.std.proofs.lemmas.List.{get_or-map, length-map}
 use Rattle.std.proofs.lemmas.List.FromFn.{get_or-map-range_with_len, length-map-range_with_len}
-use Rattle.xc_theory.specs.Codes.{AreDigits, digits}
 use Rattle.xc_theory.proofs.Codes.{digits_are_in_range}
-use Rattle.xc_theory.specs.Bounds.{join_of}
-use Rattle.xc_theory.specs.Lattices.{LatticeData, IsLawful, size}
-use Rattle.xc_alg.specs.Operations.{Operations}
+use Rattle.xc_theory.specs.Lattices.{LatticeData, size}
 use Rattle.xc_alg.specs.Products.{product}
 use Rattle.xc_alg.specs.Bounds.{joined, AreElements}
 use Rattle.xc_alg.specs.Tables.{entry}
@@ -30,18 +27,21 @@ use Rattle.xc_ctl.specs.declared.kind.Kind.{Kind}
 use Rattle.xc_top.proofs.Carrying.{frame_by, all_denoted_same}
 use Rattle.xc_top.proofs.Joining.{joined_is_bound, picked_are, known_are, left_known, all_known}
 
--- a list that passes is two lists that do
+-- of two lists that pass together the first passes
 all_left : (p : List ℕ → Bool) (xs ys : List (List ℕ)) → list_all p (xs ++ ys) ≡ true → list_all p xs ≡ true
 all_left p [] ys h = refl
 all_left p (x ∷ xs) ys h = let both = and_parts (p x) (list_all p (xs ++ ys)) h in rw both.0 (all_left p xs ys both.1)
 
+-- and so does the second
 all_right : (p : List ℕ → Bool) (xs ys : List (List ℕ)) → list_all p (xs ++ ys) ≡ true → list_all p ys ≡ true
 all_right p [] ys h = h
 all_right p (x ∷ xs) ys h = all_right p xs ys (and_parts (p x) (list_all p (xs ++ ys)) h).1
 
+-- the values of lines are elements
 lines_known : (v : ViewValue) (l : LatticeValue) → unknown_value v l ≡ None → list_all (is_among l.names) (map (λ (x : PropValue). x.value) v.props) ≡ true
 lines_known v l h = all_left (is_among l.names) (map (λ (x : PropValue). x.value) v.props) (map (λ (c : CommandValue). c.value) v.commands) (all_known l.names (value_words v) h)
 
+-- and so are those of commands
 commands_known : (v : ViewValue) (l : LatticeValue) → unknown_value v l ≡ None → list_all (is_among l.names) (map (λ (c : CommandValue). c.value) v.commands) ≡ true
 commands_known v l h = all_right (is_among l.names) (map (λ (x : PropValue). x.value) v.props) (map (λ (c : CommandValue). c.value) v.commands) (all_known l.names (value_words v) h)
 
@@ -73,30 +73,37 @@ row_of_elements n [] i h low = absurd (omega arith)
 row_of_elements n (x ∷ xs) zero h low = h.0
 row_of_elements n (x ∷ xs) (suc i) h low = row_of_elements n xs i h.1 (omega arith)
 
+-- the elements of the values of commands
 command_words : (names : List (List ℕ)) (commands : List Command) → map (place_of names) (map (λ (c : CommandValue). c.value) (map command_value commands)) ≡ map (command_code names) commands
 command_words names [] = refl
 command_words names (c ∷ commands) = ap (λ (more : List ℕ). place_of names c.value ∷ more) (command_words names commands)
 
+-- and those of lines
 line_words : (names : List (List ℕ)) (lines : List PropLine) → map (place_of names) (map (λ (x : PropValue). x.value) (map prop_value lines)) ≡ map (line_code names) lines
 line_words names [] = refl
 line_words names (l ∷ lines) = ap (λ (more : List ℕ). place_of names l.value ∷ more) (line_words names lines)
 
+-- one part has as many elements as the lattice has names
 pub one_size : (l : LatticeValue) (parts : List LatticeData) → IsFit l → parts ≡ l.algebra ∷ [] → (product parts).size ≡ length l.names
 one_size l parts fit e = ap (λ (ps : List LatticeData). (product ps).size) e ∙ product_size l.algebra ∙ sym fit.named
 
+-- which are few enough for a byte
 pub size_small : (l : LatticeValue) (parts : List LatticeData) → IsFit l → parts ≡ l.algebra ∷ [] → (product parts).size ≤ 256
 size_small l parts fit e = omega (arith, one_size l parts fit e, fit.named, fit.few)
 
+-- the codes of known words are a row
 known_row : (n m : ℕ) (names words : List (List ℕ)) (codes xs : List ℕ) → list_all (is_among names) words ≡ true → map (place_of names) words ≡ xs → codes ≡ xs → length xs ≡ m → n ≡ length names → IsRow n m codes
 known_row n m names words codes xs h is e count same =
     let elements : AreElements (length names) codes = subst (AreElements (length names)) (is ∙ sym e) (known_are names words h) in
     record { count = ap length e ∙ count; range = λ s low. rw same (row_of_elements (length names) codes s elements (omega (arith, ap length e ∙ count))) }
 
+-- the codes of commands are a row
 pub commands_row : (v : ViewValue) (l : LatticeValue) (parts : List LatticeData) (commands : List Command) (codes : List ℕ) → IsFit l → parts ≡ l.algebra ∷ [] → unknown_value v l ≡ None → map command_value commands ≡ v.commands → codes ≡ map (command_code l.names) commands → IsRow (product parts).size (length commands) codes
 commands_row v l parts commands codes fit one known is e =
     known_row (product parts).size (length commands) l.names (map (λ (c : CommandValue). c.value) (map command_value commands)) codes (map (command_code l.names) commands)
     (rw is (commands_known v l known)) (command_words l.names commands) e (length-map commands (command_code l.names)) (one_size l parts fit one)
 
+-- and so are those of lines
 pub lines_row : (v : ViewValue) (l : LatticeValue) (parts : List LatticeData) (lines : List PropLine) (codes : List ℕ) → IsFit l → parts ≡ l.algebra ∷ [] → unknown_value v l ≡ None → map prop_value lines ≡ v.props → codes ≡ map (line_code l.names) lines → IsRow (product parts).size (length lines) codes
 lines_row v l parts lines codes fit one known is e =
     known_row (product parts).size (length lines) l.names (map (λ (x : PropValue). x.value) (map prop_value lines)) codes (map (line_code l.names) lines)
@@ -106,9 +113,11 @@ lines_row v l parts lines codes fit one known is e =
 pub places_count : (v : ViewValue) (places : List (List ℕ)) → places ≡ map (row_at v) (range_with_len 0 (states_of v)) → length places ≡ states_of v
 places_count v places e = ap length e ∙ length-map-range_with_len (row_at v) 0 (states_of v)
 
+-- the places of a state
 place_is : (v : ViewValue) (places : List (List ℕ)) (s : ℕ) → places ≡ map (row_at v) (range_with_len 0 (states_of v)) → s < states_of v → slice_index_or places s [] ≡ row_at v s
 place_is v places s e low = ap (λ (rows : List (List ℕ)). get_or rows s []) e ∙ get_or-map-range_with_len (row_at v) 0 (states_of v) s s [] low (omega arith)
 
+-- each row of places is a state
 pub are_states : (v : ViewValue) (places : List (List ℕ)) → places ≡ map (row_at v) (range_with_len 0 (states_of v)) → AreStates (sizes_of v.vars) places
 are_states v places e =
     record { digits = λ i low. let here : i < states_of v = omega (arith, places_count v places e) in rw (place_is v places i e here) (digits_are_in_range (sizes_of v.vars) i here) }
@@ -156,6 +165,7 @@ are_steps v l parts vars names commands places rows fit one known same_vars same
       values = λ s t low there. steps_are v l parts commands places rows s t fit one known is e now low there;
     }
 
+-- the same of propositions
 pub are_props : (v : ViewValue) (l : LatticeValue) (parts : List LatticeData) (names : List (List ℕ)) (lines : List PropLine) (props places rows : List (List ℕ)) → IsFit l → parts ≡ l.algebra ∷ [] → unknown_value v l ≡ None → names ≡ l.names
     → map prop_value lines ≡ v.props → props ≡ prop_names v → places ≡ map (row_at v) (range_with_len 0 (states_of v)) → AreRows (product parts).size (length places) rows → rows ≡ map (λ name. map (prop_code (product parts) names lines name) places) props → AreProps v l (product parts).size rows
 are_props v l parts names lines props places rows fit one known same_names is same e shape made =
@@ -180,9 +190,11 @@ denoted_over_view v l parts size steps props tables functions one a b kinds are 
 pub kinds_same : (size names k m : ℕ) (tables others : List (List Kind)) → size ≡ names → k ≡ m → tables ≡ others → list_all (is_table_in names m) others ≡ true → list_all (is_table_in size k) tables ≡ true
 kinds_same size names k m tables others a b c h = rw (a, b, c) h
 
+-- rows by equal numbers
 pub rows_same : (size names n m : ℕ) (rows : List (List ℕ)) → size ≡ names → n ≡ m → AreRows size n rows → AreRows names m rows
 rows_same size names n m rows a b h = rw (sym a, sym b) h
 
+-- what formulas denote over rows that are read
 pub denoted_read : (parts : List LatticeData) (steps props more others : List (List ℕ)) (tables some : List (List Kind)) (functions : List (ℕ → ℕ)) → more ≡ steps → others ≡ props → some ≡ tables → AreDenoted (frame_in parts more others) some functions → AreDenoted (frame_in parts steps props) tables functions
 denoted_read parts steps props more others tables some functions a b c h =
     subst (λ (ts : List (List Kind)). AreDenoted (frame_in parts steps props) ts functions) c

@@ -5,7 +5,6 @@ use Rattle.std.specs.Option.{option_or, option_copied}
 use Rattle.std.proofs.lemmas.List.Folds.{find-append}
 use Rattle.xc_base.specs.Names.{is_among}
 use Rattle.xc_view.specs.ViewFiles.{ViewValue, PropValue, CommandValue}
-use Rattle.std.proofs.lemmas.Bool.{and_parts}
 use Rattle.xc_theory.specs.Codes.{total}
 use Rattle.xc_expr.specs.Variables.{sizes_of, is_domain, are_fit, state_limit}
 use Rattle.xc_expr.proofs.Counting.{fit_domains, fit_states}
@@ -13,8 +12,8 @@ use Rattle.xc_view.specs.Parts.{prop_value, command_value, is_sound}
 use Rattle.xc_view.specs.declared.lines.PropLine.{PropLine}
 use Rattle.xc_view.specs.declared.lines.Command.{Command}
 use Rattle.xc_lattice.specs.LatticeFiles.{LatticeValue}
-use Rattle.xc_top.specs.Checks.{unknown_value}
 use Rattle.xc_top.proofs.Sound.{sound_parts}
+use Rattle.xc_top.specs.Checks.{unknown_value}
 
 -- the first of the lines from a place on, and the others
 pub prop_next : (p : List ℕ → Bool) (lines : List PropLine) (i : ℕ) (d : PropLine) → i < length lines
@@ -60,8 +59,11 @@ module _ (v : ViewValue) (l : LatticeValue) (names : List (List ℕ)) (lines : L
       ∙ sym (or_none (find (λ w. not (is_among names w)) (map (λ (x : PropLine). x.value) lines)) (find (λ w. not (is_among names w)) (map (λ (c : CommandValue). c.value) v.commands)) (sym none)) ∙ lines_first
 
 -- the variables of a sound view
+sound_fit : (v : ViewValue) → is_sound v ≡ true → are_fit v.vars ≡ true
+sound_fit v h = (sound_parts v h).fit
+
 pub sound_domains : (v : ViewValue) → is_sound v ≡ true → list_all is_domain v.vars ≡ true
-sound_domains v h = fit_domains v.vars (sound_parts v h).fit
+sound_domains v h = fit_domains v.vars (sound_fit v h)
 
 pub sound_states : (v : ViewValue) → is_sound v ≡ true → total (sizes_of v.vars) ≤ state_limit
-sound_states v h = fit_states v.vars (sound_parts v h).fit
+sound_states v h = fit_states v.vars (sound_fit v h)

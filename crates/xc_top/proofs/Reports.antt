@@ -1,12 +1,11 @@
 -- There is one text of the values of formulas, and one at most.
-use Rattle.std.proofs.Common.{◌≡◌, ℕ, zero, suc, ◌+◌, ◌-◌, ◌<◌, ◌≤◌, Bool, true, false, ◌&&◌, nat_le, List, [], ◌∷◌, ◌++◌, length, refl, sym, ◌∙◌, ap, subst, arith}
-use Rattle.std.specs.List.{list_all, range_with_len, flat_map, filter}
+use Rattle.std.proofs.Common.{◌≡◌, ℕ, zero, suc, ◌+◌, ◌-◌, ◌<◌, ◌≤◌, true, ◌&&◌, nat_le, List, [], ◌∷◌, ◌++◌, length, refl, sym, ◌∙◌, ap, arith}
+use Rattle.std.specs.List.{list_all, range_with_len, flat_map}
 use Rattle.std.proofs.lemmas.Bool.{and_parts, leb-true}
 use Rattle.xc_theory.specs.Chains.{IsHeight}
 use Rattle.xc_theory.proofs.Chains.{heights_are_unique}
 use Rattle.xc_lattice.specs.LatticeFiles.{LatticeValue}
 use Rattle.xc_view.specs.ViewFiles.{ViewValue}
-use Rattle.xc_view.specs.Meaning.{is_initial}
 use Rattle.xc_ctl.specs.Frames.{Frame}
 use Rattle.xc_ctl.specs.Tables.{is_table, are_ordered_from}
 use Rattle.xc_ctl.specs.declared.kind.Kind.{Kind}
@@ -23,6 +22,7 @@ pub record IsTable (nodes : List Kind) : Type 0 where
   pub some : 1 ≤ length nodes
   pub ordered : are_ordered_from 0 nodes ≡ true
 
+-- a table has a node, and its nodes are in order
 pub table_parts : (nodes : List Kind) → is_table nodes ≡ true → IsTable nodes
 table_parts nodes h =
     let outer = and_parts (nat_le 1 (length nodes) && nat_le (length nodes) 256) (are_ordered_from 0 nodes) h in
@@ -36,6 +36,7 @@ lines_same v l f g (suc n) k m h same =
     let more = lines_same v l f g n (k + 1) m (omega arith) same in
     rw (first, more) refl
 
+-- so their formulas have the same text
 formula_same : (v : ViewValue) (l : LatticeValue) (number : ℕ) (f g : ℕ → ℕ) → ((s : ℕ) → s < states_of v → f s ≡ g s) → formula_text v l number f ≡ formula_text v l number g
 formula_same v l number f g same =
     let lines : flat_map (value_text v l f) (initials_of v) ≡ flat_map (value_text v l g) (initials_of v) =
@@ -48,6 +49,7 @@ one_function frame nodes f g h a b s low =
     let table = table_parts nodes h in
     a.last s ∙ denotations_are_unique frame nodes a.functions b.functions table.ordered a.denoted b.denoted (length nodes - 1) s (omega (arith, table.some)) low ∙ sym (b.last s)
 
+-- so formulas have one text
 formulas_same : (v : ViewValue) (l : LatticeValue) (frame : Frame) (number : ℕ) (tables : List (List Kind)) (fs gs : List (ℕ → ℕ)) → frame.states ≡ states_of v → list_all is_table tables ≡ true → AreDenoted frame tables fs → AreDenoted frame tables gs → formulas_text v l number fs ≡ formulas_text v l number gs
 formulas_same v l frame number [] [] [] e h none none = refl
 formulas_same v l frame number [] [] (g ∷ gs) e h a b = elim b [ ]
@@ -59,6 +61,7 @@ formulas_same v l frame number (nodes ∷ tables) (f ∷ fs) (g ∷ gs) e h (nex
     let first = formula_same v l number f g (λ s low. one_function frame nodes f g both.0 a b s (omega arith)) in
     ap (λ (text : List ℕ). text ++ formulas_text v l (number + 1) fs) first ∙ ap (λ (text : List ℕ). formula_text v l number g ++ text) (formulas_same v l frame (number + 1) tables fs gs e both.1 more others)
 
+-- there is one report at most
 pub one_report : (v : ViewValue) (l : LatticeValue) (tables : List (List Kind)) → list_all is_table tables ≡ true → (o p : Outcome) → Reports v l tables o → Reports v l tables p → o ≡ p
 one_report v l tables h o p a b =
     let height = heights_are_unique l.algebra.order a.height b.height a.is_height b.is_height in
@@ -78,6 +81,7 @@ some_functions frame (nodes ∷ tables) h =
     let f : ℕ → ℕ = all.0 (length nodes - 1) in
     (f ∷ more.0, next nodes f tables more.0 (record { functions = all.0; denoted = all.1; last = λ s. refl }) more.1)
 
+-- and there is a report
 pub some_report : (v : ViewValue) (l : LatticeValue) (tables : List (List Kind)) → list_all is_table tables ≡ true → (h : ℕ) → IsHeight l.algebra.order h → (o : Outcome) × Reports v l tables o
 some_report v l tables are h is =
     let some = some_functions (frame_of v l) tables are in

@@ -1,5 +1,5 @@
 -- The parts of the text of the values of formulas. No public clause rests on these words.
-use Rattle.std.specs.Prelude.{ℕ, Bool, if◌then◌else◌, List, [], ◌∷◌, ◌++◌, codes}
+use Rattle.std.specs.Prelude.{ℕ, if◌then◌else◌, List, [], ◌∷◌, ◌++◌, codes}
 use Rattle.std.specs.Fmt.{decimal}
 use Rattle.xc_base.specs.Names.{name_at}
 use Rattle.xc_expr.specs.declared.domain.Domain.{Domain}

@@ -12,7 +12,7 @@ use xc_base::{List, Word};
 use xc_lattice::{Lattice, Law};
 
 /// The name of an element.
-pub(crate) fn name_of(lattice: &Lattice, element: u8) -> &str
+fn name_of(lattice: &Lattice, element: u8) -> &str
     requires { element < length (value_of lattice.now).names }
     ensures { result.now ≡ name_at (value_of lattice.now).names element }
 {

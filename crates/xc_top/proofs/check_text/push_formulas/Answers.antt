@@ -1,4 +1,3 @@
-use Rattle.std.proofs.Common.{refl, slice_index, ◌∙◌}
 use Rattle.xc_lattice.specs.Values.{value_of as lattice_of}
 use Rattle.xc_view.specs.Views.{value_of as view_of}
 use Rattle.xc_top.proofs.Saying.{formula_pushed, formulas_none}

@@ -1,6 +1,4 @@
 use Rattle.std.proofs.Common.{◌∙◌}
-use Rattle.xc_alg.specs.Products.{product}
-use Rattle.xc_ctl.specs.Tables.{is_table_in}
 use Rattle.xc_ctl.specs.declared.formula.Formula.{Formula}
 use Rattle.xc_top.proofs.Carrying.{denoted_none, denoted_pushed, passes_made}
 use Rattle.xc_top.proofs.Evaluating.{rows_pushed}

@@ -1,4 +1,4 @@
-use Rattle.std.proofs.Common.{◌≡◌, length, map, take, slice_index}
+use Rattle.std.proofs.Common.{length, map, take, slice_index}
 use Rattle.xc_alg.specs.Products.{product}
 use Rattle.xc_top.specs.Checks.{AreDenoted}
 use Rattle.xc_top.specs.Evaluating.{AreRows, frame_in}

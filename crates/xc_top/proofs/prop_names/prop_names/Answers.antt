@@ -1,4 +1,4 @@
-use Rattle.std.proofs.Common.{◌≡◌, List, ℕ, map, ap, ◌∙◌}
+use Rattle.std.proofs.Common.{◌≡◌, map, ap, ◌∙◌}
 use Rattle.xc_view.specs.Parts.{prop_value}
 use Rattle.xc_view.specs.Views.{value_of}
 use Rattle.xc_top.specs.Checks.{prop_names}

@@ -1,4 +1,4 @@
-use Rattle.std.proofs.Common.{◌≡◌, map, ap, ◌∙◌}
+use Rattle.std.proofs.Common.{map, ap, ◌∙◌}
 use Rattle.xc_lattice.specs.Values.{value_of as lattice_of}
 use Rattle.xc_view.specs.Parts.{prop_value}
 use Rattle.xc_view.specs.Views.{value_of as view_of}

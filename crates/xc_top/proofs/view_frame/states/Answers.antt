@@ -1,4 +1,4 @@
-use Rattle.std.proofs.Common.{◌∙◌, rules}
+use Rattle.std.proofs.Common.{rules}
 use Rattle.xc_view.specs.Views.{value_of as view_of}
 use Rattle.xc_top.proofs.Framed.{places_count}
 use Rattle.xc_top.proofs.view_frame.states.Goals as goal
