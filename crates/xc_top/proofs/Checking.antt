@@ -1,9 +1,9 @@
 -- What comes of the files of a check.
-use Rattle.std.proofs.Common.{◌≡◌, ℕ, ◌<◌, ◌≤◌, List, Option, Some, None, Result, Ok, Err, MatchOption, if◌then◌else◌, nat_lt, sym, ap, subst, arith, refl}
+use Rattle.std.proofs.Common.{◌≡◌, ℕ, ◌<◌, ◌≤◌, List, Option, Some, None, Result, Ok, Err, MatchOption, sym, ap, subst, arith}
 use Rattle.std.specs.String.{string_bytes}
 use Rattle.std.proofs.lemmas.Bool.{lt-ltb}
 use Rattle.xc_base.specs.Formats.{Row, IsAccepted}
-use Rattle.xc_base.specs.Shelves.{Told, Shelved, IsLoaded}
+use Rattle.xc_base.specs.Shelves.{Shelved, IsLoaded}
 use Rattle.xc_base.specs.declared.shelf.File.{File}
 use Rattle.xc_base.specs.declared.fault.FileFault.{FileFault}
 use Rattle.xc_lattice.specs.declared.law.Law.{Law}
@@ -14,7 +14,7 @@ use Rattle.xc_ctl.specs.declared.kind.Kind.{Kind}
 use Rattle.xc_top.specs.Requests.{CheckOf}
 use Rattle.xc_top.specs.Texts.{states_line, value_line, file_line, broken_line}
 use Rattle.xc_top.specs.Checks.{unknown_value, signature_of, states_of, state_limit}
-use Rattle.xc_top.specs.Outcomes.{Outcome, Refusal, Event, Ends, Ending, file_limit, Cuts, Opens, ReadsView, ReadsLattice, ComesOfLattice, ReadsFormulas, Reports, Evaluates, states_excess, FormulaTasks, ValueTasks, LatticeTasks, IsCourse}
+use Rattle.xc_top.specs.Outcomes.{Outcome, Refusal, Event, Ends, file_limit, Cuts, Opens, ReadsView, ReadsLattice, ComesOfLattice, Reports, Evaluates, states_excess, FormulaTasks, ValueTasks, LatticeTasks, IsCourse}
 use Rattle.xc_top.specs.Outcomes.ReadsView.{faulty as view_faulty, accepted as view_accepted}
 use Rattle.xc_top.specs.Outcomes.ReadsFormulas.{faulty as formulas_faulty, accepted as formulas_accepted}
 use Rattle.xc_top.specs.Working.{ComesTo, Comes, CountsOn, IsCut, IsCutHalt, IsLoadHalt, IsPrepared, IsRefusalHalt, IsViewRefusal, IsLatticeRefusal, IsRefusedVerdict, IsValueRefusal, IsFormulaRefusal, outcome_of}

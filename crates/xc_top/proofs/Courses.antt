@@ -1,7 +1,6 @@
 -- How courses are gone on with: a load, a cut, and what comes behind them.
 use Rattle.std.proofs.Common.{◌≡◌, refl, ℕ, zero, suc, ◌+◌, ◌<◌, ◌≤◌, Bool, ◌||◌, List, [], ◌∷◌, ◌++◌, Option, Some, None, Result, Ok, Err, MatchOption, IsSome, IfSome, true, cond, length, take, sym, ap, subst, arith, inl, inr, ◌⊎◌, eqb, ltb}
 use Rattle.std.specs.Option.{option_map}
-use Rattle.std.specs.Str.{bytes_eq}
 use Rattle.std.specs.String.{string_bytes}
 use Rattle.std.proofs.lemmas.Bool.{lt-ltb}
 use Rattle.std.proofs.lemmas.Bool.Decides.{leb_tells}
@@ -12,12 +11,11 @@ use Rattle.xc_base.specs.Lines.{text_rows}
 use Rattle.xc_base.specs.Text.{text_fault, first_fault_from, lines_of}
 use Rattle.xc_base.specs.declared.fault.TextFault.{TextFault}
 use Rattle.xc_base.specs.declared.fault.TextFault.TheVariants.{LongFile}
-use Rattle.xc_base.specs.Shelves.{Told, Shelved, IsLoaded, held, has_risen, HasRisen}
+use Rattle.xc_base.specs.Shelves.{Told, Shelved, IsLoaded, held, HasRisen}
 use Rattle.xc_base.specs.declared.shelf.File.{File}
-use Rattle.xc_top.specs.Texts.{file_line, read_line}
-use Rattle.xc_top.specs.Outcomes.{Outcome, Absent, Refusal, Event, Ends, Loading, rest, always, file_limit, Cuts, Loads, Opens}
-use Rattle.xc_top.specs.Headline.{FailedOnce}
-use Rattle.xc_top.specs.Working.{ComesTo, Comes, IsLoadHalt, IsPrepared, CanRefuse, CountsOn, IsCut, IsCutHalt, outcome_of}
+use Rattle.xc_top.specs.Texts.{file_line}
+use Rattle.xc_top.specs.Outcomes.{Absent, Refusal, Event, Ends, Loading, always, file_limit, Cuts, Opens}
+use Rattle.xc_top.specs.Working.{Comes, IsLoadHalt, IsPrepared, CountsOn, IsCut, IsCutHalt, outcome_of}
 use Rattle.xc_top.specs.declared.answer.Answer.{Answer}
 use Rattle.xc_top.specs.declared.halt.Halt.{Halt}
 use Rattle.xc_top.specs.declared.halt.Halt.TheVariants.{Words, Refused, ReadFault, WriteFault, Memory}

@@ -26,7 +26,7 @@ use Rattle.xc_top.proofs.Outcomes.{course_once}
 use Rattle.xc_top.specs.Requests.{Request, LatticeOf, CheckOf, request_of}
 use Rattle.xc_top.specs.Texts.{file_line, lattice_text, broken_text, broken_line, value_line, states_line}
 use Rattle.xc_top.specs.Checks.{unknown_value, signature_of}
-use Rattle.xc_top.specs.Outcomes.{Outcome, Absent, Refusal, Served, Event, Ends, Ending, always, rest, file_limit, JudgesLattice, Opens, Cuts, ReadsView, ReadsLattice, ComesOfLattice, ReadsFormulas, Reports, Evaluates, states_excess, formula_line, FormulaTasks, ValueTasks, LatticeTasks, IsCourse}
+use Rattle.xc_top.specs.Outcomes.{Outcome, Absent, Refusal, Served, Event, Ends, Ending, always, rest, file_limit, JudgesLattice, Opens, ReadsView, ReadsLattice, Reports, states_excess, formula_line, FormulaTasks, ValueTasks, LatticeTasks, IsCourse}
 use Rattle.xc_top.specs.Outcomes.ReadsView.{faulty as view_faulty, accepted as view_accepted}
 use Rattle.xc_top.specs.Outcomes.ReadsFormulas.{faulty as formulas_faulty, accepted as formulas_accepted}
 use Rattle.xc_top.proofs.Courses.{Course}

@@ -1,6 +1,5 @@
 -- What comes of the rows of a lattice file.
 use Rattle.std.proofs.Common.{◌≡◌, ℕ, List, Result, Ok, Err, ap, subst}
-use Rattle.std.specs.String.{string_bytes}
 use Rattle.xc_base.specs.Formats.{Row}
 use Rattle.xc_base.specs.declared.fault.FileFault.{FileFault}
 use Rattle.xc_lattice.specs.LatticeFiles.{LatticeValue, Faulty, Unlawful, Lawful, IsVerdict}
@@ -9,11 +8,11 @@ use Rattle.xc_lattice.specs.declared.fault.LatFault.{LatFault}
 use Rattle.xc_lattice.specs.declared.fault.LatFault.TheVariants.{File}
 use Rattle.xc_lattice.specs.Values.{IsFault}
 use Rattle.xc_base.specs.declared.shelf.File.{File as ShelfFile}
-use Rattle.xc_base.specs.Shelves.{Told, Shelved, IsLoaded}
+use Rattle.xc_base.specs.Shelves.{Shelved, IsLoaded}
 use Rattle.xc_top.specs.Requests.{LatticeOf}
 use Rattle.xc_top.specs.Texts.{broken_text, file_line}
 use Rattle.xc_top.specs.Outcomes.{Event, HasText, Refusal, Served, Ending, Cuts, file_limit, JudgesLattice, IsCourse}
-use Rattle.xc_top.specs.Working.{ComesTo, Comes, IsCut, IsCutHalt, IsLoadHalt, IsPrepared, outcome_of}
+use Rattle.xc_top.specs.Working.{ComesTo, Comes, IsCut, IsCutHalt, IsLoadHalt, IsPrepared}
 use Rattle.xc_top.specs.declared.answer.Answer.{Answer}
 use Rattle.xc_top.specs.declared.halt.Halt.{Halt}
 use Rattle.xc_top.specs.declared.halt.Halt.TheVariants.{Words, Refused, ReadFault, WriteFault, Memory}

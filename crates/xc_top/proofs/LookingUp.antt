@@ -1,7 +1,7 @@
 -- The values of a view among the elements of its lattice.
 use Rattle.std.proofs.Common.{◌≡◌, ℕ, ◌+◌, ◌<◌, ◌≤◌, Bool, true, cond, not, List, [], ◌∷◌, ◌++◌, Option, Some, None, length, map, get_or, drop, drop-cons, add-one, refl, sym, ◌∙◌, ap}
 use Rattle.std.specs.List.{find, list_all}
-use Rattle.std.specs.Option.{option_or, option_copied}
+use Rattle.std.specs.Option.{option_or}
 use Rattle.std.proofs.lemmas.List.Folds.{find-append}
 use Rattle.xc_base.specs.Names.{is_among}
 use Rattle.xc_view.specs.ViewFiles.{ViewValue, PropValue, CommandValue}

@@ -1,6 +1,6 @@
 -- Words have one outcome at most over given files.
-use Rattle.std.proofs.Common.{◌≡◌, true, ℕ, ◌<◌, ◌-◌, List, [], ◌∷◌, Option, Some, None, MatchOption, length, sym, ap, ◌∙◌, subst, inl, inr, ◌⊎◌, refl, arith}
-use Rattle.xc_base.specs.Formats.{Row, IsAccepted, IsFirstFault}
+use Rattle.std.proofs.Common.{◌≡◌, true, ℕ, List, Option, Some, None, MatchOption, sym, ap, ◌∙◌, subst, inl, inr}
+use Rattle.xc_base.specs.Formats.{Row}
 use Rattle.xc_base.specs.Lines.{text_rows}
 use Rattle.xc_base.specs.Text.{text_fault}
 use Rattle.xc_base.specs.Shelves.{held}
@@ -10,15 +10,14 @@ use Rattle.xc_base.specs.declared.fault.FileFault.{FileFault}
 use Rattle.xc_theory.proofs.Chains.{heights_are_unique}
 use Rattle.xc_lattice.proofs.Verdicts.{verdicts_are_unique}
 use Rattle.xc_lattice.specs.LatticeFiles.{LatticeValue, Verdict, Faulty, Unlawful, Lawful}
-use Rattle.xc_view.specs.ViewFiles.{ViewValue, view_format}
+use Rattle.xc_view.specs.ViewFiles.{ViewValue}
 use Rattle.std.specs.List.{list_all}
 use Rattle.xc_ctl.specs.Tables.{is_table}
-use Rattle.xc_ctl.specs.FormulaFiles.{formula_format}
 use Rattle.xc_ctl.specs.declared.kind.Kind.{Kind}
 use Rattle.xc_top.specs.Requests.{Request, LatticeOf, CheckOf}
 use Rattle.xc_top.specs.Texts.{file_line, lattice_text, states_line, value_line}
-use Rattle.xc_top.specs.Checks.{unknown_value, signature_of, check_text}
-use Rattle.xc_top.specs.Outcomes.{Outcome, Absent, Refusal, Served, Event, Ends, Loading, Ending, rest, file_limit, HasText, ComesOf, JudgesLattice, Opens, Cuts, ReadsView, ReadsLattice, ComesOfLattice, ReadsFormulas, Reports, Evaluates, states_excess, formula_line, FormulaTasks, ValueTasks, LatticeTasks, IsCourse}
+use Rattle.xc_top.specs.Checks.{unknown_value, signature_of}
+use Rattle.xc_top.specs.Outcomes.{Outcome, Absent, Refusal, Served, Event, Ends, Loading, Ending, rest, file_limit, HasText, ComesOf, JudgesLattice, Opens, ReadsView, ReadsLattice, ComesOfLattice, Reports, Evaluates, states_excess, formula_line, FormulaTasks, ValueTasks, LatticeTasks, IsCourse}
 use Rattle.xc_top.specs.Outcomes.ReadsView.{faulty as view_faulty, accepted as view_accepted}
 use Rattle.xc_top.specs.Outcomes.ReadsFormulas.{faulty as formulas_faulty, accepted as formulas_accepted}
 use Rattle.xc_top.specs.declared.status.Status.TheVariants.{Done}

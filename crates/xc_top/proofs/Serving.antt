@@ -7,7 +7,7 @@ use Rattle.xc_base.specs.Sinks.{Sunk, AddsWhole, AddsPart, AddsFront}
 use Rattle.xc_base.specs.declared.shelf.File.{File}
 use Rattle.xc_top.specs.Requests.{Request, request_of}
 use Rattle.xc_top.specs.Texts.{read_line}
-use Rattle.xc_top.specs.Outcomes.{Outcome, Absent, Refusal, Served, Event, Ends, Loading, always, IsCourse, IsOutcome, IsReached}
+use Rattle.xc_top.specs.Outcomes.{Outcome, Absent, Refusal, Served, Ends, always, IsCourse, IsOutcome, IsReached}
 use Rattle.xc_top.specs.Headline.{IsServed, IsRefusal, MayRefuse, MayLoad, AddsAtMost, FailedOnce}
 use Rattle.xc_top.specs.Working.{IsPrepared, IsWorked, CanRefuse, IsWriteHalt, outcome_of, passed_status}
 use Rattle.xc_top.specs.declared.answer.Answer.{Answer}

@@ -5,7 +5,7 @@ use Rattle.xc_base.specs.Shelves.{Told, Shelved, HasRisen, has_risen}
 use Rattle.xc_base.specs.Sinks.{Sunk, AddsWhole, AddsPart, AddsFront, AddsNothing}
 use Rattle.xc_base.specs.declared.shelf.File.{File}
 use Rattle.xc_top.specs.Outcomes.{Event, Ends, Loading, Outcome, Absent, Refusal, Served, always, IsCourse, IsOutcome, IsReached}
-use Rattle.xc_top.specs.Requests.{Request, request_of}
+use Rattle.xc_top.specs.Requests.{request_of}
 use Rattle.xc_top.specs.Texts.{words_line, read_line, write_line, memory_line}
 use Rattle.xc_top.specs.declared.status.Status.{Status}
 use Rattle.xc_top.specs.declared.status.Status.TheVariants.{Done, No, Words, Refused, ReadFault, WriteFault, Memory}

@@ -1,5 +1,5 @@
 -- The outcome of a request over files: that of the first of its tasks that refuses, or that loads what is not there.
-use Rattle.std.specs.Prelude.{◌≡◌, ℕ, zero, suc, List, MatchOption, Option, Some, None, ◌⊎◌, nat_lt, if◌then◌else◌}
+use Rattle.std.specs.Prelude.{◌≡◌, ℕ, suc, List, MatchOption, Option, Some, None, ◌⊎◌, nat_lt, if◌then◌else◌}
 use Rattle.xc_base.specs.Formats.{Row, IsAccepted, IsFirstFault}
 use Rattle.xc_base.specs.Lines.{text_rows}
 use Rattle.xc_base.specs.Shelves.{held}

@@ -12,7 +12,7 @@ use Rattle.std.specs.String.{string_bytes}
 use Rattle.xc_base.specs.Shelves.{Told, Shelved, HasRisen}
 use Rattle.xc_base.specs.declared.shelf.File.{File}
 use Rattle.xc_top.specs.Outcomes.{Event, Ends, Outcome, Refusal, Served, always, file_limit, formula_line, IsCourse}
-use Rattle.xc_top.specs.Requests.{Request, request_of}
+use Rattle.xc_top.specs.Requests.{request_of}
 use Rattle.xc_top.specs.Texts.{read_line, file_line, broken_line, value_line}
 use Rattle.xc_top.specs.Checks.{unknown_value}
 use Rattle.xc_top.specs.Headline.{FailedOnce, ForOutcome, IsServed, IsRefusal, MayRefuse, MayLoad, AddsAtMost, GetsLine}

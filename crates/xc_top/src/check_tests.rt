@@ -47,7 +47,7 @@ struct Ran {
 }
 
 /// Runs `check x.view x.ctl` over these files and the lattices, with the shelf's call of that number failing.
-fn run_check(alloc: Global, view: &str, formulas: &str, load: u64) -> Result<Ran, Fail> {
+fn run_check<'a>(alloc: Global, view: &'a str, formulas: &'a str, load: u64) -> Result<Ran, Fail> {
     let mut words = Vec::new(alloc);
     for word in ["check", "x.view", "x.ctl"] {
         words.push(String::from_str(alloc, word)?)?;

@@ -1,4 +1,4 @@
-use Rattle.std.proofs.Common.{rules, ◌≡◌, ℕ, List, Option, Some, subst}
+use Rattle.std.proofs.Common.{rules, ◌≡◌, ℕ, List, subst}
 use Rattle.xc_base.specs.Shelves.{IsLoaded}
 use Rattle.xc_view.specs.Views.{value_of as view_of}
 use Rattle.xc_top.specs.Outcomes.{file_limit}

@@ -1,5 +1,4 @@
 use Rattle.std.proofs.Common.{rules, ◌≡◌, ℕ, List, subst}
-use Rattle.xc_base.specs.Formats.{Row}
 use Rattle.xc_base.specs.Lines.{rows_in}
 use Rattle.xc_lattice.specs.Values.{value_of as lattice_of}
 use Rattle.xc_view.specs.Views.{value_of as view_of}
