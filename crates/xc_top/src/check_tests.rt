@@ -123,6 +123,25 @@ fn values_of_formulas(rt: HostRuntime) -> Result<(), Fail> {
             "view idle states 2 elements 3 height 2\nformula 1\nvalue 0 y=0 T\nformula 2\nvalue 0 y=0 F\n",
         ),
         (
+            "view up\nlattice chain.lat\nvar x 0 1\ninit x=0\nprop p T when x=1\n\
+            command up with T when x=0 do x:=1\n",
+            "EX p\nAX p\nEX EX p\n",
+            "view up states 2 elements 3 height 2\nformula 1\nvalue 0 x=0 T\nformula 2\nvalue 0 x=0 T\n\
+            formula 3\nvalue 0 x=0 F\n",
+        ),
+        (
+            "view free\nlattice two.lat\nvar x 0 1\ninit x=0\ncommand any1 with T when true do x:=any\n",
+            "EX true\nAX false\nEX EX true\n",
+            "view free states 2 elements 2 height 1\nformula 1\nvalue 0 x=0 T\nformula 2\nvalue 0 x=0 F\n\
+            formula 3\nvalue 0 x=0 T\n",
+        ),
+        (
+            "view solo\nlattice two.lat\nvar x 0 1\ninit x=0\nprop p T when x=1\n",
+            "p\nEX p\nAX p\n",
+            "view solo states 2 elements 2 height 1\nformula 1\nvalue 0 x=0 F\nformula 2\nvalue 0 x=0 F\n\
+            formula 3\nvalue 0 x=0 T\n",
+        ),
+        (
             "view none\nlattice two.lat\nvar x 0 1\ninit false\n",
             "true\n",
             "view none states 2 elements 2 height 1\nformula 1\n",
