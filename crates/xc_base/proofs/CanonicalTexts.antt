@@ -1,11 +1,11 @@
 -- A canonical text is cut into its lines.
-use Rattle.std.proofs.Common.{◌≡◌, ℕ, zero, suc, ◌+◌, ◌-◌, ◌<◌, ◌≤◌, Bool, true, false, not, cond, eqb, leb, ltb, if◌then◌else◌, ◌&&◌, ◌||◌, List, [], ◌∷◌, ◌++◌, length, take, drop, map, append_assoc, append-nil, length-append, refl, ap, sym, ◌∙◌, subst, inl, inr, arith}
-use Rattle.std.specs.Prelude.{Option, Some, None}
+use Rattle.std.proofs.Common.{◌≡◌, ℕ, suc, ◌+◌, ◌-◌, ◌<◌, ◌≤◌, Bool, true, false, not, eqb, ltb, if◌then◌else◌, ◌&&◌, ◌||◌, List, [], ◌∷◌, ◌++◌, length, take, drop, map, append_assoc, append-nil, length-append, refl, ap, sym, ◌∙◌, inl, inr, arith}
+use Rattle.std.specs.Prelude.{None}
 use Rattle.std.specs.List.{list_all, list_any, slice_range}
 use Rattle.std.proofs.lemmas.Grind.{common_steps}
-use Rattle.std.proofs.lemmas.Bool.{cases_Bool, or_cases, or_left, or_right, and_parts, and_from, not-true, eqb-true, ltb-true, lt-ltb, le-ltb, leb-true, le-leb, ne_eqb, cond-true, cond-false}
+use Rattle.std.proofs.lemmas.Bool.{cases_Bool, or_cases, and_parts, and_from, not-true, eqb-true, ltb-true, le-ltb, leb-true, cond-false}
 use Rattle.std.proofs.lemmas.List.{take_at, drop_at}
-use Rattle.xc_base.specs.Text.{lines_of, onto_first, is_blank, is_allowed, joins, joins_next, tokens_from, with_line, rows_from, rows_of, first_fault_from, text_fault, token_text}
+use Rattle.xc_base.specs.Text.{lines_of, onto_first, is_blank, is_allowed, joins, joins_next, tokens_from, with_line, rows_from, first_fault_from, text_fault, token_text}
 use Rattle.xc_base.specs.Words.{is_within, is_word_byte, is_word}
 use Rattle.xc_base.specs.Formats.{Row}
 use Rattle.xc_base.specs.Lines.{row_of, text_rows}
