@@ -307,7 +307,11 @@ rows_more : (number place : ℕ) (line : List ℕ) (lines : List (List ℕ)) →
 unfolding rows_from
 rows_more number place line lines = refl
 
-numbered_more : (number : ℕ) (tokens : List (List ℕ)) (lines : List (List (List ℕ))) → numbered number (tokens ∷ lines) ≡ record { number = number; tokens = tokens } ∷ numbered (number + 1) lines
+pub numbered_none : (number : ℕ) → numbered number [] ≡ []
+unfolding numbered
+numbered_none number = refl
+
+pub numbered_more : (number : ℕ) (tokens : List (List ℕ)) (lines : List (List (List ℕ))) → numbered number (tokens ∷ lines) ≡ record { number = number; tokens = tokens } ∷ numbered (number + 1) lines
 unfolding numbered
 numbered_more number tokens lines = refl
 

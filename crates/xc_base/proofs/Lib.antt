@@ -7,6 +7,7 @@ pub mod Deciding
 pub mod Rows
 pub mod SpacedTokens
 pub mod CanonicalTexts
+pub mod CanonicalWords
 pub mod Within
 pub mod Words
 pub mod Writing

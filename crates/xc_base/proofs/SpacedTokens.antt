@@ -44,3 +44,18 @@ line_ends text tokens = append_assoc text (spaced tokens) (10 ∷ [])
 
 -- all steps of the text of tokens
 pub ruleset spaced_steps = (spaced_next, spaced_end, texts_count, append_assoc, append-nil)
+
+-- the text of lines behind lines, and of none
+pub canonical-append : (xs ys : List (List (List ℕ))) → canonical (xs ++ ys) ≡ canonical xs ++ canonical ys
+unfolding canonical
+canonical-append [] ys = refl
+canonical-append (x ∷ xs) ys = ap (λ (rest : List ℕ). spaced x ++ 10 ∷ rest) (canonical-append xs ys) ∙ sym (append_assoc (spaced x) (10 ∷ canonical xs) (canonical ys))
+
+pub no_lines : (text : List ℕ) → text ≡ text ++ canonical []
+unfolding canonical
+no_lines text = sym (append-nil text)
+
+-- lines behind a text that ends with lines
+pub more_lines : (old text next : List ℕ) (xs ys zs : List (List (List ℕ))) → text ≡ old ++ canonical xs → next ≡ text ++ canonical ys → zs ≡ xs ++ ys → next ≡ old ++ canonical zs
+more_lines old text next xs ys zs e f g =
+    f ∙ (ap (λ (t : List ℕ). t ++ canonical ys) e ∙ (append_assoc old (canonical xs) (canonical ys) ∙ ap (λ (t : List ℕ). old ++ t) (sym (canonical-append xs ys) ∙ ap canonical (sym g))))

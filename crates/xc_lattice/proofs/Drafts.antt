@@ -56,17 +56,18 @@ elements_named : (names : List (List ℕ)) → has_names (Elements names) ≡ tr
 elements_named names h = (and_parts (nat_lt 0 (length names)) (list_all is_name names) h).1
 
 elements_draft : (name : List ℕ) (row : Row) (rows : List Row) (s : Statement) (more : List Statement)
-    → IsFaultless lattice_format (Lattice name ∷ []) row.tokens s → AreStatements lattice_format (Lattice name ∷ s ∷ []) rows more → IsDraft (Lattice name ∷ s ∷ more)
-elements_draft name row rows (Lattice other) more h rest = absurd (not_true h.due.placed)
-elements_draft name row rows (Below a b) more h rest = absurd (not_true h.due.placed)
-elements_draft name row rows (Not a b) more h rest = absurd (not_true h.due.placed)
-elements_draft name row rows (Elements names) more h rest =
+    → is_name name ≡ true → IsFaultless lattice_format (Lattice name ∷ []) row.tokens s → AreStatements lattice_format (Lattice name ∷ s ∷ []) rows more → IsDraft (Lattice name ∷ s ∷ more)
+elements_draft name row rows (Lattice other) more titled h rest = absurd (not_true h.due.placed)
+elements_draft name row rows (Below a b) more titled h rest = absurd (not_true h.due.placed)
+elements_draft name row rows (Not a b) more titled h rest = absurd (not_true h.due.placed)
+elements_draft name row rows (Elements names) more titled h rest =
     let limits = in_limits (Lattice name ∷ []) names h.few in
     record {
       name = name;
       names = names;
       facts = more;
       parts = refl;
+      titled = titled;
       some = limits.0;
       few = limits.1;
       different = h.first;
@@ -75,16 +76,16 @@ elements_draft name row rows (Elements names) more h rest =
     }
 
 second_draft : {before : List Statement} {rows : List Row} {more : List Statement} (name : List ℕ)
-    → AreStatements lattice_format before rows more → before ≡ Lattice name ∷ [] → missing_part (Lattice name ∷ more) ≡ None → IsDraft (Lattice name ∷ more)
-second_draft name (none before) e h = absurd (some_is_not parts.Elements h)
-second_draft name (next before row rows s more first rest) e h =
-    elements_draft name row rows s more
+    → is_name name ≡ true → AreStatements lattice_format before rows more → before ≡ Lattice name ∷ [] → missing_part (Lattice name ∷ more) ≡ None → IsDraft (Lattice name ∷ more)
+second_draft name titled (none before) e h = absurd (some_is_not parts.Elements h)
+second_draft name titled (next before row rows s more first rest) e h =
+    elements_draft name row rows s more titled
     (subst (λ (b : List Statement). IsFaultless lattice_format b row.tokens s) e first)
     (subst (λ (b : List Statement). AreStatements lattice_format (b ++ s ∷ []) rows more) e rest)
 
 name_draft : (row : Row) (rows : List Row) (s : Statement) (more : List Statement)
     → IsFaultless lattice_format [] row.tokens s → AreStatements lattice_format (s ∷ []) rows more → missing_part (s ∷ more) ≡ None → IsDraft (s ∷ more)
-name_draft row rows (Lattice name) more first rest h = second_draft name rest refl h
+name_draft row rows (Lattice name) more first rest h = second_draft name first.due.named rest refl h
 name_draft row rows (Elements names) more first rest h = absurd (not_true first.due.placed)
 name_draft row rows (Below a b) more first rest h = absurd (not_true first.due.placed)
 name_draft row rows (Not a b) more first rest h = absurd (not_true first.due.placed)

@@ -9,6 +9,11 @@ pub mod Finding
 pub mod Judged
 pub mod Lawful
 pub mod Names
+pub mod PrintedAgain
+pub mod PrintedLines
+pub mod PrintedReady
+pub mod PrintedShort
+pub mod PrintedTexts
 pub mod Reading
 pub mod Said
 pub mod Spanning

@@ -1,6 +1,6 @@
 -- What a reader gathers from the statements of a whole file is what they say.
 use Rattle.std.proofs.Common.{◌≡◌, ℕ, zero, suc, ◌<◌, ◌≤◌, Bool, true, false, cond, not, ◌||◌, List, [], ◌∷◌, Option, Some, None, length, get_or, inl, inr, refl, sym, ◌∙◌, subst, ap, arith}
-use Rattle.std.specs.List.{list_any, find, Contains}
+use Rattle.std.specs.List.{list_all, list_any, find, Contains}
 use Rattle.std.specs.Str.{bytes_eq}
 use Rattle.std.proofs.lemmas.List.{length-map, get_or-map}
 use Rattle.xc_base.specs.declared.fault.Part.TheVariants as parts
@@ -11,11 +11,12 @@ use Rattle.xc_order.specs.Pairs.{IsListed, AreBelow}
 use Rattle.xc_lattice.specs.declared.statement.Statement.{Statement}
 use Rattle.xc_lattice.specs.declared.statement.Statement.TheVariants.{Lattice, Elements, Below, Not}
 use Rattle.xc_lattice.specs.LatticeFiles.{LatticeValue, Says, SaysBelow, SaysNegation, negates, element_names, negation_part, missing_part}
+use Rattle.xc_base.specs.Words.{is_name}
 use Rattle.xc_base.specs.Names.{has_twice, name_at, place_of}
 use Rattle.xc_lattice.specs.Drafts.{IsDraft, file_name, pairs_of, negated_by, place_or_end, negation_place, negations_of, IsReady}
 use Rattle.xc_lattice.proofs.Drafts.{Has, Has-from_Contains, Contains-from_Has}
 use Rattle.xc_base.proofs.Naming.{same_bytes, among_in_range, name_at-place_of, place_of-name_at, in_range}
-use Rattle.xc_lattice.proofs.Values.{the_names, known_below, known_not}
+use Rattle.xc_lattice.proofs.Values.{the_name, the_names, known_below, known_not}
 use Rattle.xc_lattice.proofs.Names.{missing_late}
 
 -- A relation that says the same spans the same table.
@@ -248,7 +249,9 @@ IsReady-from_Says ss d v h =
       };
       reflexive = λ a within. spanned_refl (length v.names) (SaysBelow ss v.names) v.algebra.order h.order a (omega arith);
       transitive = λ a b c a_in b_in c_in. spanned_trans (length v.names) (SaysBelow ss v.names) v.algebra.order h.order a b c (omega arith) (omega arith) (omega arith);
+      titled = subst (λ (name : List ℕ). is_name name ≡ true) (the_name ss d v.name h.name) d.titled;
       named = sym n;
+      names_are = subst (λ (ns : List (List ℕ)). list_all is_name ns ≡ true) names d.named;
       different = subst (λ (ns : List (List ℕ)). has_twice ns ≡ false) names d.different;
       some = omega (arith, d.some);
       few = omega (arith, d.few);

@@ -28,6 +28,7 @@ pub record IsDraft (statements : List Statement) : Type 0 where
   pub names : List (List ℕ)
   pub facts : List Statement
   pub parts : statements ≡ Lattice name ∷ Elements names ∷ facts
+  pub titled : is_name name ≡ true
   pub some : 2 ≤ length names
   pub few : length names ≤ 64
   pub different : has_twice names ≡ false
@@ -71,12 +72,14 @@ negation_place names statements name = place_or_end names (negated_by statements
 abbrev pub negations_of : List (List ℕ) → List Statement → List ℕ
 negations_of names statements = map (negation_place names statements) names
 
--- a value that can be judged by the laws: of 2 to 64 elements, each with a name of its own and a negation, and an order
+-- a value that can be judged by the laws: with a name, of 2 to 64 elements, each with a name of its own and a negation, and an order
 pub record IsReady (v : LatticeValue) : Type 0 where
   pub shape : IsWellShaped v.algebra
   pub reflexive : (a : ℕ) → a < size v.algebra → below v.algebra a a ≡ true
   pub transitive : (a b c : ℕ) → a < size v.algebra → b < size v.algebra → c < size v.algebra → below v.algebra a b ≡ true → below v.algebra b c ≡ true → below v.algebra a c ≡ true
+  pub titled : is_name v.name ≡ true
   pub named : length v.names ≡ size v.algebra
+  pub names_are : list_all is_name v.names ≡ true
   pub different : has_twice v.names ≡ false
   pub some : 2 ≤ size v.algebra
   pub few : size v.algebra ≤ 64

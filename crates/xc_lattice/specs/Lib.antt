@@ -5,6 +5,8 @@ pub mod Drafts
 pub mod LatticeFiles
 pub mod Lawful
 pub mod Laws
+pub mod Printed
+pub mod Rooms
 pub mod Stops
 pub mod Tables
 pub mod Tuples

@@ -7,6 +7,7 @@ ghost use Rattle.xc_lattice.specs.Values.{said};
 ghost use Rattle.xc_lattice.specs.Drafts.{IsDraft, file_name, pairs_of, negated_by, negation_place, negations_of};
 ghost use Rattle.xc_base.specs.Names.{place_of};
 
+use crate::copies::copy_names;
 use crate::judge::{element_names, is_negated, is_same};
 use crate::statement::Statement;
 use std::alloc::Global;
@@ -66,16 +67,6 @@ fn file_name(statements: &[Statement]) -> Option<&Word>
         }
     }
     None
-}
-
-fn copy_names(alloc: Global, names: &[Word]) -> Result<List<Word>, Memory>
-    ensures { IfOk result (λ copies. copies ≡ names.now) }
-{
-    let mut copies = List::new(alloc);
-    for name in names {
-        copies.push(name.copy(alloc)?)?;
-    }
-    Ok(copies)
 }
 
 /// The place of a name among at most 64 names, where it is among them.

@@ -1,5 +1,7 @@
-ghost use Rattle.std.specs.Prelude.{◌≡◌, ◌≤◌, false, length};
+ghost use Rattle.std.specs.Prelude.{◌≡◌, ◌≤◌, true, false, length};
+ghost use Rattle.std.specs.List.{list_all};
 ghost use Rattle.xc_base.specs.Names.{has_twice};
+ghost use Rattle.xc_base.specs.Words.{is_name};
 ghost use Rattle.xc_theory.specs.Lattices.{IsLawful};
 
 use crate::gather::find_name;
@@ -16,7 +18,9 @@ pub struct Lattice {
     order: Order,
     negations: List<u8>,
     ghost lawful: { IsLawful (record { order = order; negations = negations }) },
+    ghost titled: { is_name name ≡ true },
     ghost named: { length names ≡ length order },
+    ghost names_are: { list_all is_name names ≡ true },
     ghost different: { has_twice names ≡ false },
     ghost some: { 2 ≤ length order },
     ghost few: { length order ≤ 64 },
@@ -34,7 +38,9 @@ impl Lattice {
     /// The lattice of a name, its elements' names, their order and their negations.
     pub(crate) fn of(name: Word, names: List<Word>, order: Order, negations: List<u8>) -> Lattice
         requires lawful { IsLawful (record { order = order; negations = negations }) }
+        requires titled { is_name name ≡ true }
         requires named { length names ≡ length order }
+        requires names_are { list_all is_name names ≡ true }
         requires different { has_twice names ≡ false }
         requires some { 2 ≤ length order }
         requires few { length order ≤ 64 }
@@ -49,16 +55,18 @@ impl Lattice {
         }
     }
 
-    /// Its name.
+    /// Its name, which is a name.
     pub fn name(&self) -> &Word
-        ensures { result.now ≡ (value_of self.now).name }
+        ensures name { result.now ≡ (value_of self.now).name }
+        ensures titled { is_name (value_of self.now).name ≡ true }
     {
         &self.name
     }
 
-    /// The names of its elements, in order. No two are the same.
+    /// The names of its elements, in order. Each is a name, and no two are the same.
     pub fn names(&self) -> &List<Word>
         ensures names { result.now ≡ (value_of self.now).names }
+        ensures named { list_all is_name (value_of self.now).names ≡ true }
         ensures different { has_twice (value_of self.now).names ≡ false }
     {
         &self.names

@@ -4,12 +4,14 @@
 mod admit;
 mod bounded;
 mod breaks;
+mod copies;
 mod decide;
 mod fault;
 mod gather;
 mod judge;
 mod lattice;
 mod law;
+mod printing;
 mod reader;
 mod rows;
 mod statement;

@@ -52,6 +52,16 @@ impl Order {
         Ok(Order { n, rows })
     }
 
+    /// An equal order with memory of its own.
+    pub fn copy(&self, alloc: Global) -> Result<Order, Memory>
+        ensures { IfOk result (λ order. order ≡ self.now) }
+    {
+        Ok(Order {
+            n: self.n,
+            rows: Vec::from_slice(alloc, self.rows.as_slice())?,
+        })
+    }
+
     /// How many elements there are.
     pub fn size(&self) -> u8
         ensures size { result ≡ length self.now }

@@ -1,0 +1,12 @@
+use Rattle.std.proofs.Common.{◌≡◌, ◌++◌, map}
+use Rattle.std.specs.List.{flat_map, range_with_len}
+use Rattle.xc_theory.specs.Orders.{elements}
+use Rattle.xc_base.specs.Canonical.{canonical}
+use Rattle.xc_lattice.specs.LatticeFiles.{spelling}
+use Rattle.xc_lattice.specs.Printed.{below_statements}
+use Rattle.xc_lattice.specs.Values.{value_of}
+use Rattle.xc_lattice.proofs.lattice.Lattice.push_order.Given as goal
+
+abbrev pub invariant-loop-a : goal.invariant-loop-a
+invariant-loop-a l =
+    l.text ≡ l.fn.text ++ canonical (map spelling (flat_map (λ a. below_statements (value_of l.self) a (elements (value_of l.self).algebra.order)) (range_with_len 0 l.a)))
