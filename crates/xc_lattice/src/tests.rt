@@ -9,7 +9,7 @@ use crate::reader::read;
 use std::alloc::{AllocError, Global};
 use std::fmt::Write;
 use std::test::Fail;
-use xc_alg::Algebra;
+use xc_alg::{Algebra, AnyTable};
 use xc_base::{FileFault, List, Part, Word, cut_lines};
 
 const TWO: &[u8] = b"lattice two\nelements F T\nbelow F T\nnot F T\nnot T F\n";
@@ -42,7 +42,7 @@ fn fault_told(alloc: Global, fault: &FileFault) -> Result<String, AllocError> {
         FileFault::Missing {
             part: Part::Not(name),
         } => format!(in alloc; "Missing not {}", name.as_str()),
-        FileFault::Missing { .. } => format!(in alloc; "Missing"),
+        FileFault::Missing { .. } => format!(in alloc; "Missing elements"),
     }
 }
 
@@ -70,7 +70,7 @@ fn answer(alloc: Global, text: &[u8]) -> Result<String, Fail> {
 
 #[test]
 fn files_have_their_verdicts(rt: HostRuntime) -> Result<(), Fail> {
-    let table: [(&[u8], &str); 11] = [
+    let table: [(&[u8], &str); 17] = [
         (TWO, "lattice two 2 1 0 1 Some(1)"),
         (CHAIN, "lattice chain 3 2 0 2 Some(2)"),
         (DIAMOND, "lattice diamond 4 2 0 3 Some(3)"),
@@ -100,6 +100,18 @@ fn files_have_their_verdicts(rt: HostRuntime) -> Result<(), Fail> {
             "Unknown 3",
         ),
         (b"lattice two\nbelow F T\n".as_slice(), "NoStatement 2"),
+        (b"lattice\n".as_slice(), "NoStatement 1"),
+        (b"lattice two\nelements\n".as_slice(), "NoStatement 2"),
+        (b"lattice two\n".as_slice(), "Missing elements"),
+        (b"lattice one\nelements F\n".as_slice(), "Count 2 1"),
+        (
+            b"lattice two\nelements F T\nnot F T\nnot F X\n".as_slice(),
+            "Repeated 4",
+        ),
+        (
+            b"lattice two\nelements F T\nnot F X\n".as_slice(),
+            "Unknown 3",
+        ),
     ];
     for (text, expected) in table {
         let given = answer(rt.alloc(), text)?;
@@ -154,6 +166,80 @@ fn tables_hold_the_operations(rt: HostRuntime) -> Result<(), Fail> {
             operations_told(rt.alloc(), &lattice.table::<64>())?.as_str(),
             expected
         );
+    }
+    Ok(())
+}
+
+// The file of a chain, each element of which is negated by the one that stands as far from the other end.
+fn chain_file(alloc: Global, size: u8) -> Result<String, AllocError> {
+    let mut elements = String::new(alloc);
+    let mut more = String::new(alloc);
+    for a in 0..size {
+        write!(elements, " e{a}")?;
+        if a > 0 {
+            write!(more, "below e{} e{a}\n", a - 1)?;
+        }
+        write!(more, "not e{a} e{}\n", size - 1 - a)?;
+    }
+    format!(in alloc; "lattice chain\nelements{elements}\n{more}")
+}
+
+fn printed(alloc: Global, lattice: &Lattice) -> Result<String, Fail> {
+    let text = lattice.print(alloc)?;
+    let mut copy = String::new(alloc);
+    for byte in text.as_slice() {
+        copy.push((*byte & 127) as char)?;
+    }
+    Ok(copy)
+}
+
+#[test]
+fn lattices_are_printed_and_copied(rt: HostRuntime) -> Result<(), Fail> {
+    let table: [(&[u8], &str); 3] = [
+        (
+            TWO,
+            "lattice two\nelements F T\nbelow F T\nnot F T\nnot T F\n",
+        ),
+        (
+            CHAIN,
+            "lattice chain\nelements F M T\nbelow F M\nbelow F T\nbelow M T\nnot F T\nnot M M\nnot T F\n",
+        ),
+        (
+            DIAMOND,
+            "lattice diamond\nelements F N B T\nbelow F N\nbelow F B\nbelow F T\nbelow N T\nbelow B T\nnot F T\nnot N N\nnot B B\nnot T F\n",
+        ),
+    ];
+    for (text, expected) in table {
+        let lines = cut_lines(rt.alloc(), text, 1_048_576)?;
+        let lattice = read(rt.alloc(), &lines)?;
+        assert_eq!(rt; printed(rt.alloc(), &lattice)?.as_str(), expected);
+        let copy = lattice.copy(rt.alloc())?;
+        assert_eq!(rt; printed(rt.alloc(), &copy)?.as_str(), expected);
+        let again = answer(rt.alloc(), expected.as_bytes())?;
+        assert_eq!(rt; again.as_str(), told(rt.alloc(), &lattice)?.as_str());
+    }
+    Ok(())
+}
+
+fn room(table: &AnyTable) -> u8 {
+    match table {
+        AnyTable::T4(_) => 4,
+        AnyTable::T16(_) => 16,
+        AnyTable::T64(_) => 64,
+    }
+}
+
+#[test]
+fn chains_have_tables_of_the_least_room(rt: HostRuntime) -> Result<(), Fail> {
+    let table = [(2, 4), (4, 4), (5, 16), (16, 16), (17, 64), (64, 64)];
+    for (size, expected) in table {
+        let text = chain_file(rt.alloc(), size)?;
+        let lines = cut_lines(rt.alloc(), text.as_bytes(), 1_048_576)?;
+        let lattice = read(rt.alloc(), &lines)?;
+        let any = lattice.any(rt.alloc())?;
+        assert_eq!(rt; room(&any), expected);
+        assert_eq!(rt; any.size(), u16::from(size));
+        assert_eq!(rt; any.neg(any.bottom()), any.top());
     }
     Ok(())
 }
