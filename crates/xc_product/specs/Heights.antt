@@ -12,6 +12,10 @@ AreHeights [] (height ∷ heights) = ⊥
 AreHeights (l ∷ parts) [] = ⊥
 AreHeights (l ∷ parts) (height ∷ heights) = IsHeight l.order height × AreHeights parts heights
 
+-- there are such numbers
+abbrev pub HaveHeights : List LatticeData → Type 0
+HaveHeights parts = ∥ ((heights : List ℕ) × AreHeights parts heights) ∥₁
+
 -- the number is the sum of the heights
 abbrev pub IsSumOfHeights : List LatticeData → ℕ → Type 0
 IsSumOfHeights parts height = (heights : List ℕ) × AreHeights parts heights × (height ≡ sum heights)

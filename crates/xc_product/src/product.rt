@@ -3,7 +3,7 @@ ghost use Rattle.xc_theory.specs.Lattices.{bottom};
 ghost use Rattle.xc_theory.specs.Codes.{total, digits, code_of, AreDigits};
 ghost use Rattle.xc_alg.specs.Products.{product, sizes};
 ghost use Rattle.xc_product.specs.Parts.{lattices, weight, HoldsProduct};
-ghost use Rattle.xc_product.specs.Heights.{AreHeights, IsSumOfHeights};
+ghost use Rattle.xc_product.specs.Heights.{AreHeights, HaveHeights, IsSumOfHeights};
 
 use crate::bounds::{bottom_code, top_code};
 use crate::fault::ProductFault;
@@ -132,7 +132,7 @@ impl Product {
     /// The sum of the heights of the parts.
     pub fn height(&self) -> u32
         ensures sum { (heights : Items ℕ) → AreHeights (parts_of self.now) heights → result ≡ sum heights }
-        ensures exist { ∥ (heights : Items ℕ) × AreHeights (parts_of self.now) heights ∥₁ }
+        ensures exist { HaveHeights (parts_of self.now) }
     {
         self.height
     }
