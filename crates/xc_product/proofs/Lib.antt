@@ -1,1 +1,4 @@
 pub mod Turns
+pub mod Sizes
+pub mod Digits
+pub mod HeightSums

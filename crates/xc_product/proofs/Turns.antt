@@ -52,7 +52,7 @@ none_top : (product []).top ≡ 0
 unfolding product
 none_top = refl
 
-none_size : (product []).size ≡ 1
+pub none_size : (product []).size ≡ 1
 unfolding product
 none_size = refl
 
@@ -84,6 +84,12 @@ positive tables i = omega (arith, (lawful_product (drop i tables)).bottom_in_ran
 pub next : (tables : List AnyTable) (i : ℕ) (t : AnyTable) → i < length tables → t ≡ get_or tables i t → drop i tables ≡ t ∷ drop (i + 1) tables
 next tables i t within is =
     drop-cons tables i t within ∙ (ap (λ (x : AnyTable). x ∷ drop (suc i) tables) (sym is) ∙ ap (λ (n : ℕ). t ∷ drop n tables) (sym (add-one i)))
+
+-- the part at a place
+pub item : (tables : List AnyTable) (i : ℕ) → i < length tables → (t : AnyTable) × (t ≡ get_or tables i t)
+item [] i h = absurd (omega arith)
+item (t ∷ tables) zero h = (t, refl)
+item (t ∷ tables) (suc i) h = item tables i (omega arith)
 
 module _ (tables : List AnyTable) (i : ℕ) (t : AnyTable) (within : i < length tables) (is : t ≡ get_or tables i t) where
   pub turn : from tables i ≡ pair (single (lattice_in_any t)) (from tables (i + 1))

@@ -28,16 +28,23 @@ fn height(alloc: Global, table: &AnyTable) -> Result<u32, Memory>
     ensures small { IfOk result (λ height. height < 64) }
 {
     let pairs = pairs_below(alloc, table)?;
-    let order = Order::of(alloc, table.size() as u8, &pairs)?;
+    let order = Order::of(alloc, size(table), &pairs)?;
     Ok(order.height())
 }
 
-// The pairs of elements that are below each other.
+fn size(table: &AnyTable) -> u8
+    ensures size { result ≡ size (lattice_in_any table.now) }
+    ensures limit { result ≤ 64 }
+{
+    table.size() as u8
+}
+
+// The pairs of elements of which the first is below the second.
 fn pairs_below(alloc: Global, table: &AnyTable) -> Result<List<Pair>, Memory>
     ensures { IfOk result (ListsRows (lattice_in_any table.now) (size (lattice_in_any table.now))) }
 {
     let mut pairs = List::new(alloc);
-    for low in 0..table.size() as u8 {
+    for low in 0..size(table) {
         push_row(&mut pairs, table, low)?;
     }
     Ok(pairs)
@@ -49,10 +56,21 @@ fn push_row(pairs: &mut List<Pair>, table: &AnyTable, low: u8) -> Result<(), Mem
     requires rows { ListsRows (lattice_in_any table.now) low pairs.old }
     ensures { IfOk result (λ _. ListsRows (lattice_in_any table.now) (low + 1) pairs.new) }
 {
-    for high in 0..table.size() as u8 {
-        if table.le(low as u16, high as u16) {
-            pairs.push(Pair { low, high })?;
-        }
+    for high in 0..size(table) {
+        push_pair(pairs, table, low, high)?;
+    }
+    Ok(())
+}
+
+// Adds a pair where the first element is below the second.
+fn push_pair(pairs: &mut List<Pair>, table: &AnyTable, low: u8, high: u8) -> Result<(), Memory>
+    requires low { low < size (lattice_in_any table.now) }
+    requires high { high < size (lattice_in_any table.now) }
+    requires pairs { OnRow (lattice_in_any table.now) low high pairs.old }
+    ensures { IfOk result (λ _. OnRow (lattice_in_any table.now) low (high + 1) pairs.new) }
+{
+    if table.le(low as u16, high as u16) {
+        pairs.push(Pair { low, high })?;
     }
     Ok(())
 }

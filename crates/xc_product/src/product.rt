@@ -48,15 +48,16 @@ impl Product {
         ensures ok { IfOk result (λ p. (parts_of p ≡ lattices parts) × (total (sizes (lattices parts)) ≤ 4096)) }
         ensures err { IfErr result (IsFaultOf (lattices parts)) }
     {
-        let size = count(parts.as_slice());
+        let tables = parts.as_slice();
+        let size = count(tables);
         if size > 4096 {
             return Err(ProductFault::TooLarge { size });
         }
-        let height = sum_of_heights(alloc, parts.as_slice())?;
+        let height = sum_of_heights(alloc, tables)?;
         let size = size as u16;
-        let weights = weights(parts.as_slice(), size);
-        let bottom = bottom_code(parts.as_slice(), &weights);
-        let top = top_code(parts.as_slice(), &weights);
+        let weights = weights(tables, size);
+        let bottom = bottom_code(tables, &weights);
+        let top = top_code(tables, &weights);
         Ok(Product {
             tables: parts,
             weights,
