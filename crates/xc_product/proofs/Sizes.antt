@@ -89,3 +89,19 @@ holds_of_copy us ts weights size bottom top e h =
       bottom_is = h.bottom_is ∙ ap (λ (parts : List LatticeData). (product parts).bottom) (sym e);
       top_is = h.top_is ∙ ap (λ (parts : List LatticeData). (product parts).top) (sym e);
     }
+
+-- what is found of the tables of a list is what its product keeps
+pub holds_of_found : (parts tables : List AnyTable) (weights : List ℕ) (size bottom top : ℕ) → tables ≡ parts → 1 ≤ length parts → length parts ≤ 8
+    → size ≡ total (sizes (lattices tables)) → size ≤ 4096 → ((k : ℕ) → k < length tables → get_or weights k 0 ≡ weight tables k)
+    → bottom ≡ (product (lattices tables)).bottom → top ≡ (product (lattices tables)).top → HoldsProduct parts weights size bottom top
+holds_of_found parts tables weights size bottom top same several few sized limited weighted bottom_is top_is =
+    subst (λ (ts : List AnyTable). HoldsProduct ts weights size bottom top) same
+    (record {
+      several = subst (λ (ts : List AnyTable). 1 ≤ length ts) (sym same) several;
+      few = subst (λ (ts : List AnyTable). length ts ≤ 8) (sym same) few;
+      weighted = weighted;
+      sized = sized ∙ sym (total_is (lattices tables));
+      limited = omega (arith, total_is (lattices tables));
+      bottom_is = bottom_is;
+      top_is = top_is;
+    })

@@ -5,6 +5,7 @@ use Rattle.xc_product.proofs.weights.weights.Given as goal
 
 abbrev pub invariant-loop-part : goal.invariant-loop-part
 invariant-loop-part l = record {
+  long : length l.weights ≡ 8;
   rest : l.rest ≡ (from l.tables l.part).size;
   weighted : (k : ℕ) → k < l.part → get_or l.weights k 0 ≡ weight l.tables k;
 }
