@@ -170,7 +170,7 @@ chain_distinct n table order anti (x ∷ y ∷ rest) h =
     ne_eqb x z (λ same. h.2 (anti x y h.0 y_in h.1 (subst (λ (v : ℕ). is_below table y v ≡ true) (sym same) above.1))) in
     (all_weaker (IsAbove table y) (λ z. eqb x z ≡ false) apart (y ∷ rest) (chain_above n table order rest y h.3), chain_distinct n table order anti (y ∷ rest) h.3)
 
-chain_fits : (n : ℕ) (table : List (List Bool)) → IsOrder n table → IsAntisymmetric table → (xs : List ℕ) → IsChain table xs → length xs ≤ length table
+pub chain_fits : (n : ℕ) (table : List (List Bool)) → IsOrder n table → IsAntisymmetric table → (xs : List ℕ) → IsChain table xs → length xs ≤ length table
 chain_fits n table order anti xs h = length-le_from_distinct_below xs (length table) (chain_distinct n table order anti xs h) (chain_in_range table xs h)
 
 highest : (level : ℕ → ℕ) (m : ℕ) → 0 < m → (a : ℕ) × (a < m) × (greatest_level level m ≡ level a)

@@ -1,0 +1,5 @@
+pub mod Turns
+pub mod Sizes
+pub mod Digits
+pub mod HeightSums
+pub mod Literals

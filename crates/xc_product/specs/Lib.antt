@@ -1,0 +1,5 @@
+pub mod Parts
+pub mod Heights
+pub mod Products
+pub mod Faults
+pub mod Lawful
