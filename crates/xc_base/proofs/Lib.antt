@@ -8,3 +8,5 @@ pub mod Rows
 pub mod Within
 pub mod Words
 pub mod Writing
+pub mod Facts
+pub mod FileFacts
