@@ -10,7 +10,7 @@ use Rattle.xc_theory.proofs.Facts.{chain, diamond, circle}
 use Rattle.xc_order.specs.declared.order.Pair.{Pair}
 use Rattle.xc_order.specs.Pairs.{IsListed, AreBelow}
 use Rattle.xc_order.specs.Order.{IsOrder, IsMatrix, table_of}
-use Rattle.xc_order.specs.Closure.{own_row, own_rows, joined_row, closed_through}
+use Rattle.xc_order.specs.Closure.{own_rows, joined_row, closed_through}
 use Rattle.xc_order.specs.Heights.{is_over, steps_up, greatest_level, is_alone}
 use Rattle.xc_order.proofs.Heights.{IsHeight-from_levels, alone_decides}
 
@@ -87,10 +87,13 @@ not_an_order h = false≢true (h.transitive 0 1 2 (omega arith) (omega arith) (o
 pub no_matrix : IsMatrix 3 chain.order → ⊥
 no_matrix h = let wrong : 3 ≡ 64 = h.columns 0 (omega arith) in omega (arith, wrong)
 
+pub diamond_is_antisymmetric : IsAntisymmetric diamond.order
+diamond_is_antisymmetric = (alone_decides diamond.order).0 refl
+
 -- the height of the diamond is 2, and no other
 pub height_of_diamond : IsHeight diamond.order 2
 height_of_diamond =
-    IsHeight-from_levels 4 4 diamond.order (2 ∷ 1 ∷ 1 ∷ 0 ∷ []) 2 diamond_is_order ((alone_decides diamond.order).0 refl) (omega arith)
+    IsHeight-from_levels 4 4 diamond.order (2 ∷ 1 ∷ 1 ∷ 0 ∷ []) 2 diamond_is_order diamond_is_antisymmetric (omega arith)
     (λ a ha. eqb-true (get_or (2 ∷ 1 ∷ 1 ∷ 0 ∷ []) a 0) (steps_up diamond.order 4 a) (each_passes (λ x. eqb (get_or (2 ∷ 1 ∷ 1 ∷ 0 ∷ []) x 0) (steps_up diamond.order 4 x)) refl a ha)) refl
 
 pub no_other_height : IsHeight diamond.order 3 → ⊥

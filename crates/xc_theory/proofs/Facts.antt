@@ -1,8 +1,8 @@
 -- The definitions at small lattices whose values are known from outside: a wrong definition does not check here.
 use Rattle.std.proofs.Common.{◌≡◌, ◌≢◌, ◌<◌, ◌≤◌, ◌+◌, ℕ, zero, suc, Bool, true, false, List, [], ◌∷◌, length, Some, None, refl, arith}
 use Rattle.std.proofs.lemmas.Bool.{false≢true}
-use Rattle.xc_theory.specs.Orders.{is_below, IsSquare, IsAntisymmetric, Leads, Reaches, IsSpannedBy}
-use Rattle.xc_theory.specs.Bounds.{IsMeet, IsJoin, first_meet, first_join, meet_of, join_of}
+use Rattle.xc_theory.specs.Orders.{IsSquare, IsAntisymmetric, Leads, Reaches, IsSpannedBy}
+use Rattle.xc_theory.specs.Bounds.{IsMeet, IsJoin, first_meet, first_join, meet_of}
 use Rattle.xc_theory.specs.Lattices.{LatticeData, meet, join, negation, bottom, top, IsWellShaped, IsLawful}
 use Rattle.xc_theory.specs.Chains.{IsChain, IsHeight}
 use Rattle.xc_theory.specs.Codes.{total, digits, code_of, AreDigits}
@@ -57,10 +57,10 @@ pub middle : meet chain 1 (negation chain 1) ≡ 1
 unfolding first_meet
 middle = refl
 
--- elements with nothing below both have no meet, and of two bounds that are each below the other the first is found
-pub odd_bounds : (first_meet peak (0 ∷ 1 ∷ []) ≡ None) × (first_join peak (0 ∷ 1 ∷ []) ≡ Some 2) × (first_meet circle (1 ∷ []) ≡ Some 0)
+-- elements with nothing below both have no meet, for which 0 stands; of two bounds that are each below the other the first is found
+pub odd_bounds : (first_meet peak (0 ∷ 1 ∷ []) ≡ None) × (first_join peak (0 ∷ 1 ∷ []) ≡ Some 2) × (first_meet circle (1 ∷ []) ≡ Some 0) × (meet_of peak (0 ∷ 1 ∷ []) ≡ 0)
 unfolding first_meet first_join
-odd_bounds = (refl, refl, refl)
+odd_bounds = (refl, refl, refl, refl)
 
 -- `a meet (b join c)` is a, and `(a meet b) join (a meet c)` is 0
 pub undistributed : (meet m3 1 (join m3 2 3) ≡ 1) × (join m3 (meet m3 1 2) (meet m3 1 3) ≡ 0)
