@@ -1,5 +1,5 @@
 -- Operators and the judging of files at small cases whose values are known from outside.
-use Rattle.std.proofs.Common.{◌≡◌, ◌<◌, ◌≤◌, ℕ, Bool, true, false, ◌&&◌, not, cond, eqb, ltb, Result, List, [], ◌∷◌, ◌++◌, length, Option, Some, None, Ok, Err, codes, refl, sym, arith}
+use Rattle.std.proofs.Common.{◌≡◌, ◌<◌, ◌≤◌, ℕ, Bool, true, false, ◌&&◌, not, cond, eqb, ltb, Result, List, [], ◌∷◌, ◌++◌, length, Option, Some, None, Ok, Err, codes, get_or, ap, subst, refl, sym, arith}
 use Rattle.std.specs.List.{list_any}
 use Rattle.std.proofs.lemmas.Bool.{false≢true}
 use Rattle.xc_base.specs.declared.fault.FileFault.{FileFault}
@@ -8,7 +8,7 @@ use Rattle.xc_base.specs.declared.fault.Part.TheVariants as parts
 use Rattle.xc_base.specs.declared.fault.Counted.TheVariants as counted
 use Rattle.xc_base.specs.Operators.{Front, behind, chained, chain, chain_up_to, Shortens, Begins}
 use Rattle.xc_base.specs.Formats.{Format, Row, Excess, IsFaultless, HasFault, AreStatements, IsAccepted, IsFirstFault}
-use Rattle.xc_base.specs.Formats.HasFault.{repeated as said_again}
+use Rattle.xc_base.specs.Formats.HasFault.{not_yet, no_statement, repeated as said_again, unknown, count}
 use Rattle.xc_base.specs.Formats.AreStatements.{none, next}
 use Rattle.xc_base.specs.Formats.IsFirstFault.{in_row, lacking}
 use Rattle.xc_base.specs.Deciding.{line_of, statements_of, file_of, statement_fault}
@@ -95,3 +95,14 @@ first_fault =
 
 pub headless : IsFirstFault toy [] (Missing parts.Head)
 headless = lacking [] parts.Head (none []) refl
+
+said : (s : ℕ) → (3 ∷ []) ∷ [] ≡ (s ∷ []) ∷ [] → s ≡ 3
+said s due = sym (ap (λ (tokens : List (List ℕ)). get_or (get_or tokens 0 []) 0 0) due)
+
+-- the row that says 3 again has this fault alone, though 3 is unknown there too
+pub one_fault : {f : FileFault} → HasFault toy (3 ∷ []) (row 5 3) f → f ≡ Repeated 5
+one_fault (not_yet ready) = absurd (false≢true ready)
+one_fault (no_statement ready nothing_due) = absurd (nothing_due 3 refl)
+one_fault (said_again s ready due again) = refl
+one_fault (unknown s ready due fresh found) = absurd (false≢true (sym (subst (λ (x : ℕ). list_any (eqb x) (3 ∷ []) ≡ false) (said s due) fresh)))
+one_fault (count s e ready due fresh known excess) = absurd (false≢true (sym (subst (λ (x : ℕ). list_any (eqb x) (3 ∷ []) ≡ false) (said s due) fresh)))
