@@ -4,3 +4,4 @@ pub mod Parts
 pub mod Products
 pub mod Tables
 pub mod Literals
+pub mod Facts

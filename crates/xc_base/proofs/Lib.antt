@@ -11,3 +11,5 @@ pub mod CanonicalWords
 pub mod Within
 pub mod Words
 pub mod Writing
+pub mod Facts
+pub mod FileFacts

@@ -1,5 +1,5 @@
-ghost use Rattle.std.specs.Prelude.{◌≡◌, ◌<◌, ◌≤◌, ◌^◌, ◌-◌, ◌+◌, IfOk, vec_len};
-ghost use Rattle.xc_base.specs.Shelves.{unseen};
+ghost use Rattle.std.specs.Prelude.{◌≡◌, ◌<◌, ◌≤◌, ◌^◌, ◌-◌, ◌+◌, IfOk, OnOk, OnErr, IsErrOf, vec_len};
+ghost use Rattle.xc_base.specs.Shelves.{unseen, told_after, IsLoaded, HasRisen, IsAbsentIfSteady, raised};
 ghost use Rattle.std.specs.Io.KnownBytes.{Consumes, IsAtEnd};
 
 use crate::shelf::{LoadFault, Shelf};
@@ -70,7 +70,18 @@ impl<'a, R: Files> Shelf for FileShelf<'a, R> {
 
     ghost counted = { λ s. tt };
 
-    fn load(&mut self, alloc: Global, name: &str, limit: usize) -> Result<Vec<u8>, LoadFault> {
+    fn load(&mut self, alloc: Global, name: &str, limit: usize) -> Result<Vec<u8>, LoadFault>
+        requires { limit < 2 ^ 32 }
+        ensures told { (unseen self.new.faults).told ≡ told_after (unseen self.old.faults).told name.now result }
+        ensures counts { self.old.faults ≤ self.new.faults }
+        ensures loaded { IfOk result (λ v. IsLoaded (unseen self.old.faults).told name.now limit v.items) }
+        ensures failed { IsErrOf result LoadFault.Failed → HasRisen self.old.faults self.new.faults }
+        ensures steady { IsErrOf result LoadFault.Failed → IsAbsentIfSteady (unseen self.old.faults).told name.now }
+        // Each load that gives no bytes is counted, whatever the cause, and no other; and no more bytes are given than asked for.
+        ensures each { OnErr result (self.new.faults ≡ raised self.old.faults) }
+        ensures only { OnOk result (self.new.faults ≡ self.old.faults) }
+        ensures size { IfOk result (λ v. vec_len v ≤ limit + 1) }
+    {
         let loaded = read_file(alloc, self.rt, name, limit);
         if loaded.is_err() {
             self.faults = self.faults.saturating_add(1);

@@ -1,6 +1,6 @@
-ghost use Rattle.std.specs.Prelude.{◌≡◌, ◌<◌, ◌≤◌, length, take, IfSome, IfOk, OnOk, IsErrOf};
+ghost use Rattle.std.specs.Prelude.{◌≡◌, ◌<◌, ◌≤◌, length, take, IfSome, IfOk, OnOk, OnErr, IsErrOf};
 ghost use Rattle.std.specs.Io.KnownBytes.{Appends};
-ghost use Rattle.xc_base.specs.Shelves.{HasRisen};
+ghost use Rattle.xc_base.specs.Shelves.{HasRisen, raised};
 ghost use Rattle.xc_base.specs.Sinks.{written_after};
 ghost use Rattle.xc_base.specs.Sinks.{unseen};
 
@@ -51,6 +51,9 @@ impl<X: io::Write + Drop> Sink for StreamSink<X> {
         ensures want_counts { (unseen self.old.faults).wants ≤ (unseen self.new.faults).wants }
         ensures failed { IsErrOf result SinkFault.Failed → HasRisen self.old.faults self.new.faults }
         ensures wanted { IsErrOf result SinkFault.Memory → HasRisen (unseen self.old.faults).wants (unseen self.new.faults).wants }
+        // each put that takes nothing is counted, and no other
+        ensures each { OnErr result (self.new.faults ≡ raised self.old.faults) }
+        ensures only { OnOk result (self.new.faults ≡ self.old.faults) }
         // what it answers that it took was appended to the writer, where its bytes are known
         ensures passed_on { IfOk result (λ k. Appends (X.contents self.old.writer) (X.contents self.new.writer) (take k piece.now)) }
     {

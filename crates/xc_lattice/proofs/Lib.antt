@@ -21,3 +21,4 @@ pub mod Tokens
 pub mod Unbroken
 pub mod Values
 pub mod Verdicts
+pub mod Facts

@@ -3,3 +3,4 @@ pub mod Ranges
 pub mod Bounds
 pub mod Orders
 pub mod Chains
+pub mod Facts
