@@ -1,6 +1,7 @@
 pub mod Deciding
 pub mod Denoting
 pub mod ElementCodes
+pub mod Facts
 pub mod Fixpoints
 pub mod FormulaReading
 pub mod Implications

@@ -5,6 +5,7 @@ pub mod Checking
 pub mod Outcomes
 pub mod Serving
 pub mod Existence
+pub mod Facts
 pub mod Evaluating
 pub mod Framing
 pub mod Saying

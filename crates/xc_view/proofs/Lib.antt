@@ -2,6 +2,7 @@ pub mod Tokens
 pub mod Commands
 pub mod Stated
 pub mod Sizes
+pub mod Facts
 pub mod Fair
 pub mod Reading
 pub mod Expressions
