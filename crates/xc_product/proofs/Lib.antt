@@ -3,3 +3,4 @@ pub mod Sizes
 pub mod Digits
 pub mod HeightSums
 pub mod Literals
+pub mod Facts

@@ -12,8 +12,11 @@ loop-table-init c = omega (arith, total_is (lattices c.args.tables.now))
 
 pub overflow_mul-count : goal.overflow_mul-count
 overflow_mul-count c =
-    omega (arith, count_fits c.args.tables.now c.loop-table.table-index c.table-item.result (omega arith) c.table-item.is c.loop-table.count c.from-count.result
-    (c.from-count.ensures ∙ c.size.ensures) c.requires c.loop-table.invariant)
+    omega (
+      arith,
+      count_fits c.args.tables.now c.loop-table.table-index c.table-item.result (omega arith) c.table-item.is c.loop-table.count c.from-count.result
+          (c.from-count.ensures ∙ c.size.ensures) c.requires c.loop-table.invariant,
+    )
 
 pub loop-table-preserved : goal.loop-table-preserved
 loop-table-preserved c =

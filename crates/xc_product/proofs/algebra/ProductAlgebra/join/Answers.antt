@@ -12,26 +12,35 @@ join-requires c =
 
 pub overflow_mul-joined : goal.overflow_mul-joined
 overflow_mul-joined c =
-    omega (arith, join_turn c.args.self.now.tables c.loop-part.part c.get.result.now (omega arith) c.get.ensures (get_or c.args.self.now.weights c.loop-part.part 0) (c.args.self.now.holds.weighted c.loop-part.part (omega arith))
-    c.loop-part.left c.split-first.result.digit c.split-first.result.rest c.split-first.ensures.digit c.split-first.ensures.rest
-    c.loop-part.right c.split-second.result.digit c.split-second.result.rest c.split-second.ensures.digit c.split-second.ensures.rest c.join.result c.join.ensures,
-    (lawful_product c.args.self.now.tables).join_in_range c.args.a c.args.b c.requires.left c.requires.right)
+    omega (
+      arith,
+      join_turn c.args.self.now.tables c.loop-part.part c.get.result.now (omega arith) c.get.ensures (get_or c.args.self.now.weights c.loop-part.part 0) (c.args.self.now.holds.weighted c.loop-part.part (omega arith))
+          c.loop-part.left c.split-first.result.digit c.split-first.result.rest c.split-first.ensures.digit c.split-first.ensures.rest
+          c.loop-part.right c.split-second.result.digit c.split-second.result.rest c.split-second.ensures.digit c.split-second.ensures.rest c.join.result c.join.ensures,
+      (lawful_product c.args.self.now.tables).join_in_range c.args.a c.args.b c.requires.left c.requires.right,
+    )
 
 pub overflow_add-joined : goal.overflow_add-joined
 overflow_add-joined c =
-    omega (arith, join_turn c.args.self.now.tables c.loop-part.part c.get.result.now (omega arith) c.get.ensures (get_or c.args.self.now.weights c.loop-part.part 0) (c.args.self.now.holds.weighted c.loop-part.part (omega arith))
-    c.loop-part.left c.split-first.result.digit c.split-first.result.rest c.split-first.ensures.digit c.split-first.ensures.rest
-    c.loop-part.right c.split-second.result.digit c.split-second.result.rest c.split-second.ensures.digit c.split-second.ensures.rest c.join.result c.join.ensures,
-    (lawful_product c.args.self.now.tables).join_in_range c.args.a c.args.b c.requires.left c.requires.right)
+    omega (
+      arith,
+      join_turn c.args.self.now.tables c.loop-part.part c.get.result.now (omega arith) c.get.ensures (get_or c.args.self.now.weights c.loop-part.part 0) (c.args.self.now.holds.weighted c.loop-part.part (omega arith))
+          c.loop-part.left c.split-first.result.digit c.split-first.result.rest c.split-first.ensures.digit c.split-first.ensures.rest
+          c.loop-part.right c.split-second.result.digit c.split-second.result.rest c.split-second.ensures.digit c.split-second.ensures.rest c.join.result c.join.ensures,
+      (lawful_product c.args.self.now.tables).join_in_range c.args.a c.args.b c.requires.left c.requires.right,
+    )
 
 pub loop-part-preserved : goal.loop-part-preserved
 loop-part-preserved c =
     record {
       left_in = c.split-first.ensures.within;
       right_in = c.split-second.ensures.within;
-      joined = omega (arith, join_turn c.args.self.now.tables c.loop-part.part c.get.result.now (omega arith) c.get.ensures (get_or c.args.self.now.weights c.loop-part.part 0) (c.args.self.now.holds.weighted c.loop-part.part (omega arith))
-    c.loop-part.left c.split-first.result.digit c.split-first.result.rest c.split-first.ensures.digit c.split-first.ensures.rest
-    c.loop-part.right c.split-second.result.digit c.split-second.result.rest c.split-second.ensures.digit c.split-second.ensures.rest c.join.result c.join.ensures);
+      joined = omega (
+        arith,
+        join_turn c.args.self.now.tables c.loop-part.part c.get.result.now (omega arith) c.get.ensures (get_or c.args.self.now.weights c.loop-part.part 0) (c.args.self.now.holds.weighted c.loop-part.part (omega arith))
+            c.loop-part.left c.split-first.result.digit c.split-first.result.rest c.split-first.ensures.digit c.split-first.ensures.rest
+            c.loop-part.right c.split-second.result.digit c.split-second.result.rest c.split-second.ensures.digit c.split-second.ensures.rest c.join.result c.join.ensures,
+      );
     }
 
 pub returns : goal.returns

@@ -29,9 +29,9 @@ loop-part-preserved c =
       left_in = c.split-first.ensures.within;
       right_in = c.split-second.ensures.within;
       below = both_true _ _ _ c.if-not-le.false
-    (below_turn c.args.self.now.tables c.loop-part.part c.get.result.now (omega arith) c.get.ensures (get_or c.args.self.now.weights c.loop-part.part 0) (c.args.self.now.holds.weighted c.loop-part.part (omega arith))
-    c.loop-part.left c.split-first.result.digit c.split-first.result.rest c.split-first.ensures.digit c.split-first.ensures.rest
-    c.loop-part.right c.split-second.result.digit c.split-second.result.rest c.split-second.ensures.digit c.split-second.ensures.rest c.le.result c.le.ensures) ∙ c.loop-part.invariant.below;
+          (below_turn c.args.self.now.tables c.loop-part.part c.get.result.now (omega arith) c.get.ensures (get_or c.args.self.now.weights c.loop-part.part 0) (c.args.self.now.holds.weighted c.loop-part.part (omega arith))
+          c.loop-part.left c.split-first.result.digit c.split-first.result.rest c.split-first.ensures.digit c.split-first.ensures.rest
+          c.loop-part.right c.split-second.result.digit c.split-second.result.rest c.split-second.ensures.digit c.split-second.ensures.rest c.le.result c.le.ensures) ∙ c.loop-part.invariant.below;
     }
 
 pub returns : goal.returns

@@ -8,22 +8,31 @@ neg-requires c = digit_in c.args.self.now.tables c.loop-part.part c.get.result.n
 
 pub overflow_mul-negated : goal.overflow_mul-negated
 overflow_mul-negated c =
-    omega (arith, negation_turn c.args.self.now.tables c.loop-part.part c.get.result.now (omega arith) c.get.ensures (get_or c.args.self.now.weights c.loop-part.part 0) (c.args.self.now.holds.weighted c.loop-part.part (omega arith))
-    c.loop-part.code c.split-split.result.digit c.split-split.result.rest c.split-split.ensures.digit c.split-split.ensures.rest c.neg.result c.neg.ensures,
-    (lawful_product c.args.self.now.tables).negation_in_range c.args.a c.requires)
+    omega (
+      arith,
+      negation_turn c.args.self.now.tables c.loop-part.part c.get.result.now (omega arith) c.get.ensures (get_or c.args.self.now.weights c.loop-part.part 0) (c.args.self.now.holds.weighted c.loop-part.part (omega arith))
+          c.loop-part.code c.split-split.result.digit c.split-split.result.rest c.split-split.ensures.digit c.split-split.ensures.rest c.neg.result c.neg.ensures,
+      (lawful_product c.args.self.now.tables).negation_in_range c.args.a c.requires,
+    )
 
 pub overflow_add-negated : goal.overflow_add-negated
 overflow_add-negated c =
-    omega (arith, negation_turn c.args.self.now.tables c.loop-part.part c.get.result.now (omega arith) c.get.ensures (get_or c.args.self.now.weights c.loop-part.part 0) (c.args.self.now.holds.weighted c.loop-part.part (omega arith))
-    c.loop-part.code c.split-split.result.digit c.split-split.result.rest c.split-split.ensures.digit c.split-split.ensures.rest c.neg.result c.neg.ensures,
-    (lawful_product c.args.self.now.tables).negation_in_range c.args.a c.requires)
+    omega (
+      arith,
+      negation_turn c.args.self.now.tables c.loop-part.part c.get.result.now (omega arith) c.get.ensures (get_or c.args.self.now.weights c.loop-part.part 0) (c.args.self.now.holds.weighted c.loop-part.part (omega arith))
+          c.loop-part.code c.split-split.result.digit c.split-split.result.rest c.split-split.ensures.digit c.split-split.ensures.rest c.neg.result c.neg.ensures,
+      (lawful_product c.args.self.now.tables).negation_in_range c.args.a c.requires,
+    )
 
 pub loop-part-preserved : goal.loop-part-preserved
 loop-part-preserved c =
     record {
       code_in = c.split-split.ensures.within;
-      negated = omega (arith, negation_turn c.args.self.now.tables c.loop-part.part c.get.result.now (omega arith) c.get.ensures (get_or c.args.self.now.weights c.loop-part.part 0) (c.args.self.now.holds.weighted c.loop-part.part (omega arith))
-    c.loop-part.code c.split-split.result.digit c.split-split.result.rest c.split-split.ensures.digit c.split-split.ensures.rest c.neg.result c.neg.ensures);
+      negated = omega (
+        arith,
+        negation_turn c.args.self.now.tables c.loop-part.part c.get.result.now (omega arith) c.get.ensures (get_or c.args.self.now.weights c.loop-part.part 0) (c.args.self.now.holds.weighted c.loop-part.part (omega arith))
+            c.loop-part.code c.split-split.result.digit c.split-split.result.rest c.split-split.ensures.digit c.split-split.ensures.rest c.neg.result c.neg.ensures,
+      );
     }
 
 pub returns : goal.returns

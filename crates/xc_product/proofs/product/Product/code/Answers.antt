@@ -7,13 +7,21 @@ bounds-digits-part c = omega (arith, digits-length c.args.self.now.tables c.args
 
 pub overflow_mul-code : goal.overflow_mul-code
 overflow_mul-code c =
-    omega (arith, c.loop-part.invariant, code_turn c.args.self.now.tables c.loop-part.part (get_or c.args.self.now.weights c.loop-part.part 0) c.args.digits.now (omega arith) (c.args.self.now.holds.weighted c.loop-part.part (omega arith)) (omega (arith, digits-length c.args.self.now.tables c.args.digits.now c.requires)),
-    code_within c.args.self.now.tables c.args.digits.now c.requires)
+    omega (
+      arith,
+      c.loop-part.invariant,
+      code_turn c.args.self.now.tables c.loop-part.part (get_or c.args.self.now.weights c.loop-part.part 0) c.args.digits.now (omega arith) (c.args.self.now.holds.weighted c.loop-part.part (omega arith)) (omega (arith, digits-length c.args.self.now.tables c.args.digits.now c.requires)),
+      code_within c.args.self.now.tables c.args.digits.now c.requires,
+    )
 
 pub overflow_add-code : goal.overflow_add-code
 overflow_add-code c =
-    omega (arith, c.loop-part.invariant, code_turn c.args.self.now.tables c.loop-part.part (get_or c.args.self.now.weights c.loop-part.part 0) c.args.digits.now (omega arith) (c.args.self.now.holds.weighted c.loop-part.part (omega arith)) (omega (arith, digits-length c.args.self.now.tables c.args.digits.now c.requires)),
-    code_within c.args.self.now.tables c.args.digits.now c.requires)
+    omega (
+      arith,
+      c.loop-part.invariant,
+      code_turn c.args.self.now.tables c.loop-part.part (get_or c.args.self.now.weights c.loop-part.part 0) c.args.digits.now (omega arith) (c.args.self.now.holds.weighted c.loop-part.part (omega arith)) (omega (arith, digits-length c.args.self.now.tables c.args.digits.now c.requires)),
+      code_within c.args.self.now.tables c.args.digits.now c.requires,
+    )
 
 pub loop-part-preserved : goal.loop-part-preserved
 loop-part-preserved c =

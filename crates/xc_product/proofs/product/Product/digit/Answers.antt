@@ -16,9 +16,12 @@ loop-earlier-preserved c =
 
 pub overflow_cast-result : goal.overflow_cast-result
 overflow_cast-result c =
-    omega (arith, digit_here c.args.self.now.tables c.loop-earlier.earlier c.args.code c.loop-earlier.rest (omega (arith, length-map c.args.self.now.tables lattice_in_any)) c.loop-earlier.invariant.digits_left c.args.part c.split.result.digit (omega arith) c.split.ensures.digit,
-    digit_within c.args.self.now.tables c.args.code c.args.part c.requires.code (omega (arith, length-map c.args.self.now.tables lattice_in_any)),
-    small_sizes c.args.self.now.tables c.args.part)
+    omega (
+      arith,
+      digit_here c.args.self.now.tables c.loop-earlier.earlier c.args.code c.loop-earlier.rest (omega (arith, length-map c.args.self.now.tables lattice_in_any)) c.loop-earlier.invariant.digits_left c.args.part c.split.result.digit (omega arith) c.split.ensures.digit,
+      digit_within c.args.self.now.tables c.args.code c.args.part c.requires.code (omega (arith, length-map c.args.self.now.tables lattice_in_any)),
+      small_sizes c.args.self.now.tables c.args.part,
+    )
 
 pub returns-clause-value : goal.returns-clause-value
 returns-clause-value c =
@@ -26,5 +29,8 @@ returns-clause-value c =
 
 pub returns-clause-within : goal.returns-clause-within
 returns-clause-within c =
-    omega (arith, digit_here c.args.self.now.tables c.loop-earlier.earlier c.args.code c.loop-earlier.rest (omega (arith, length-map c.args.self.now.tables lattice_in_any)) c.loop-earlier.invariant.digits_left c.args.part c.split.result.digit (omega arith) c.split.ensures.digit,
-    digit_within c.args.self.now.tables c.args.code c.args.part c.requires.code (omega (arith, length-map c.args.self.now.tables lattice_in_any)))
+    omega (
+      arith,
+      digit_here c.args.self.now.tables c.loop-earlier.earlier c.args.code c.loop-earlier.rest (omega (arith, length-map c.args.self.now.tables lattice_in_any)) c.loop-earlier.invariant.digits_left c.args.part c.split.result.digit (omega arith) c.split.ensures.digit,
+      digit_within c.args.self.now.tables c.args.code c.args.part c.requires.code (omega (arith, length-map c.args.self.now.tables lattice_in_any)),
+    )
