@@ -1,19 +1,17 @@
 -- The steps by which a formula that is written out is printed.
-use Rattle.std.proofs.Common.{◌≡◌, ℕ, zero, suc, ◌+◌, ◌-◌, ◌*◌, ◌/◌, ◌%◌, ◌<◌, ◌≤◌, Bool, true, false, ◌&&◌, nat_lt, if◌then◌else◌, List, [], ◌∷◌, ◌++◌, length, length-drop, drop, drop-cons, add-one, append_assoc, append-nil, codes, refl, sym, ◌∙◌, ap, subst, arith}
+use Rattle.std.proofs.Common.{◌≡◌, ℕ, suc, ◌+◌, ◌-◌, ◌*◌, ◌/◌, ◌%◌, ◌<◌, ◌≤◌, Bool, true, false, nat_lt, if◌then◌else◌, List, [], ◌∷◌, ◌++◌, length, length-drop, drop, drop-cons, add-one, append_assoc, append-nil, codes, refl, sym, ◌∙◌, ap, subst, arith}
 use Rattle.std.specs.List.{list_all}
 use Rattle.std.proofs.lemmas.List.{drop_all, map-append}
 use Rattle.std.proofs.lemmas.Nat.{div_below, mod_below}
 use Rattle.xc_theory.specs.Codes.{total, digits}
-use Rattle.xc_base.specs.Canonical.{spaced}
 use Rattle.xc_base.specs.Lines.{texts}
 use Rattle.xc_base.specs.declared.lines.Lexeme.{Lexeme}
 use Rattle.xc_base.specs.Names.{name_at}
-use Rattle.xc_base.specs.Words.{is_word}
 use Rattle.xc_ctl.specs.Written.{listed}
 use Rattle.xc_ctl.specs.Texts.{digit_names, bracketed}
 use Rattle.xc_ctl.specs.Trees.{is_part, sizes_of}
 use Rattle.xc_ctl.specs.Resolving.{part_at, total_from}
-use Rattle.xc_ctl.specs.Printing.{only_if, digits_from, element_braces, gap_after}
+use Rattle.xc_ctl.specs.Printing.{only_if, digits_from, element_braces}
 use Rattle.xc_ctl.proofs.ElementCodes.{total_more, total_some}
 
 -- one token more, and none
