@@ -6,7 +6,7 @@ use Rattle.xc_alg.specs.Products.{product}
 use Rattle.xc_base.specs.Canonical.{spaced}
 use Rattle.xc_base.specs.declared.fault.Part.TheVariants as parts
 use Rattle.xc_base.specs.declared.fault.Counted.TheVariants as counted
-use Rattle.xc_base.specs.Operators.{chained, chain, chain_up_to}
+use Rattle.xc_base.specs.Operators.{chained, chain as chain_on, chain_up_to}
 use Rattle.xc_ctl.specs.Written as written
 use Rattle.xc_ctl.specs.Written.{Written, is_prop_name, IsFormula, has_fixpoint, has_fixpoint_from}
 use Rattle.xc_ctl.specs.Written.IsSpelled.{truth, factor, summand, conclusion, all_next}
@@ -52,11 +52,11 @@ pub grouped : (formula_in (p ∷ codes "->" ∷ p ∷ codes "->" ∷ p ∷ []) �
     × (formula_in (p ∷ codes "|" ∷ p ∷ codes "&" ∷ p ∷ []) ≡ Some (written.Or (written.Name p) (written.And (written.Name p) (written.Name p))))
     × (formula_in (codes "!" ∷ codes "EX" ∷ p ∷ codes "&" ∷ p ∷ []) ≡ Some (written.And (written.Not (written.SomeNext (written.Name p))) (written.Name p)))
     × (formula_in (codes "{" ∷ T ∷ codes "," ∷ M ∷ codes "}" ∷ []) ≡ Some (written.Braces (T ∷ M ∷ [])))
-unfolding formula_in implication implications implications_up_to sum reading.product basic nested atom names one_name chained chain chain_up_to
+unfolding formula_in implication implications implications_up_to sum reading.product basic nested atom names one_name chained chain_on chain_up_to
 grouped = (refl, refl, refl, refl)
 
 pub no_formulas : (formula_in [] ≡ None) × (formula_in (p ∷ p ∷ []) ≡ None) × (formula_in (codes "EX" ∷ []) ≡ None) × (formula_in (codes "{" ∷ codes "}" ∷ []) ≡ None) × (formula_in (p ∷ codes "->" ∷ []) ≡ None)
-unfolding formula_in implication implications implications_up_to sum reading.product basic nested atom names one_name chained chain chain_up_to
+unfolding formula_in implication implications implications_up_to sum reading.product basic nested atom names one_name chained chain_on chain_up_to
 no_formulas = (refl, refl, refl, refl, refl)
 
 -- `AX true`, by the grammar itself

@@ -41,8 +41,8 @@ bob =
     }
 
 -- F below M below T
-abbrev chain : List (List Bool)
-chain = (true ∷ true ∷ true ∷ []) ∷ (false ∷ true ∷ true ∷ []) ∷ (false ∷ false ∷ true ∷ []) ∷ []
+abbrev chain_order : List (List Bool)
+chain_order = (true ∷ true ∷ true ∷ []) ∷ (false ∷ true ∷ true ∷ []) ∷ (false ∷ false ∷ true ∷ []) ∷ []
 
 abbrev names : List (List ℕ)
 names = codes "F" ∷ M ∷ T ∷ []
@@ -51,7 +51,7 @@ names = codes "F" ∷ M ∷ T ∷ []
 pub words_of_bob : (step_words bob 0 1 ≡ M ∷ []) × (step_words bob 1 0 ≡ T ∷ []) × (step_words bob 0 0 ≡ []) × (prop_words bob (codes "p") 1 ≡ T ∷ []) × (prop_words bob (codes "q") 1 ≡ [])
 words_of_bob = (refl, refl, refl, refl, refl)
 
-pub values_of_bob : (step_value chain names bob 0 1 ≡ 1) × (step_value chain names bob 1 0 ≡ 2) × (step_value chain names bob 1 1 ≡ 0) × (prop_value_at chain names bob (codes "p") 1 ≡ 2) × (prop_value_at chain names bob (codes "p") 0 ≡ 0)
+pub values_of_bob : (step_value chain_order names bob 0 1 ≡ 1) × (step_value chain_order names bob 1 0 ≡ 2) × (step_value chain_order names bob 1 1 ≡ 0) × (prop_value_at chain_order names bob (codes "p") 1 ≡ 2) × (prop_value_at chain_order names bob (codes "p") 0 ≡ 0)
 unfolding first_join
 values_of_bob = (refl, refl, refl, refl, refl)
 
@@ -59,7 +59,7 @@ pub initial_of_bob : (is_initial bob 0 ≡ true) × (is_initial bob 1 ≡ false)
 initial_of_bob = (refl, refl)
 
 -- of two commands that lead the values are joined: with a second one of T from 0 to 1 the step is T
-pub joined : step_value chain names (record bob { commands = record { name = codes "go"; value = M; guard = tests.True; action = assigns.Any 0 ∷ [] } ∷ record { name = codes "run"; value = T; guard = tests.Is 0 0; action = assigns.Value 0 1 ∷ [] } ∷ [] }) 0 1 ≡ 2
+pub joined : step_value chain_order names (record bob { commands = record { name = codes "go"; value = M; guard = tests.True; action = assigns.Any 0 ∷ [] } ∷ record { name = codes "run"; value = T; guard = tests.Is 0 0; action = assigns.Value 0 1 ∷ [] } ∷ [] }) 0 1 ≡ 2
 unfolding first_join
 joined = refl
 
