@@ -1,10 +1,10 @@
 -- Products, tables and the bounds of lists of codes at small lattices whose values are known from outside.
-use Rattle.std.proofs.Common.{◌≡◌, ◌<◌, ◌≤◌, ℕ, Bool, true, false, List, [], ◌∷◌, refl, sym, subst, arith, rules}
+use Rattle.std.proofs.Common.{◌≡◌, ◌≤◌, ℕ, true, false, List, [], ◌∷◌, refl, sym, subst, arith, rules}
 use Rattle.std.proofs.lemmas.Bool.{false≢true}
 use Rattle.xc_theory.specs.Bounds.{first_meet, first_join}
 use Rattle.xc_theory.specs.Lattices.{LatticeData, IsLawful}
 use Rattle.xc_theory.proofs.Facts.{two, chain, diamond, m3, m3_is_unlawful}
-use Rattle.xc_alg.specs.Operations.{Operations, IsAlgebra}
+use Rattle.xc_alg.specs.Operations.{IsAlgebra}
 use Rattle.xc_alg.specs.Products.{product, AreLawful, sizes, firsts, rests, negation_digits, below_digits, meet_codes, join_codes}
 use Rattle.xc_alg.specs.Bounds.{AreElements, IsMeetOf, IsJoinOf, met, joined}
 use Rattle.xc_alg.specs.Tables.{AreTablesOf, entry, lattice_in}

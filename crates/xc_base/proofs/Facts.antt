@@ -1,5 +1,5 @@
 -- Cutting, names, shelves and sinks at small cases whose values are known from outside.
-use Rattle.std.proofs.Common.{◌≡◌, ◌<◌, ◌≤◌, ◌+◌, ℕ, Bool, true, false, List, [], ◌∷◌, ◌++◌, length, map, replicate, Some, None, Ok, Err, codes, get_or, ap, refl, arith}
+use Rattle.std.proofs.Common.{◌≡◌, ◌<◌, ◌+◌, ℕ, true, false, List, [], ◌∷◌, ◌++◌, map, replicate, Some, None, Ok, Err, codes, get_or, ap, refl, arith}
 use Rattle.xc_base.specs.declared.fault.TextFault.TheVariants.{LongFile, BadByte, LongLine}
 use Rattle.xc_base.specs.declared.shelf.File.{File}
 use Rattle.xc_base.specs.declared.shelf.LoadFault.TheVariants as loads
@@ -11,7 +11,7 @@ use Rattle.xc_base.specs.Words.{is_word, is_name, is_file_word}
 use Rattle.xc_base.specs.Names.{is_among, has_twice, name_at, place_of, are_same}
 use Rattle.xc_base.specs.Canonical.{spaced}
 use Rattle.xc_base.specs.Shelves.{held, has_risen, failed_after, fails_at, raised, IsLoaded, IsAbsentIfSteady}
-use Rattle.xc_base.specs.Sinks.{written_after, IsFront, AddsWhole, AddsPart, AddsNothing, after_put, empty_sink}
+use Rattle.xc_base.specs.Sinks.{written_after, IsFront, AddsWhole, AddsPart, after_put, empty_sink}
 
 -- the texts of the tokens of a text's rows
 abbrev cut : List ℕ → List (List (List ℕ))

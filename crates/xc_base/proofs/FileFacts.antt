@@ -1,5 +1,5 @@
 -- Operators and the judging of files at small cases whose values are known from outside.
-use Rattle.std.proofs.Common.{◌≡◌, ◌<◌, ◌≤◌, ℕ, Bool, true, false, ◌&&◌, not, cond, eqb, ltb, Result, List, [], ◌∷◌, ◌++◌, length, Option, Some, None, Ok, Err, codes, get_or, ap, subst, refl, sym, arith}
+use Rattle.std.proofs.Common.{◌≡◌, ◌≤◌, ℕ, false, ◌&&◌, not, cond, eqb, ltb, Result, List, [], ◌∷◌, ◌++◌, length, Option, Some, None, Ok, Err, codes, get_or, ap, subst, refl, sym, arith}
 use Rattle.std.specs.List.{list_any}
 use Rattle.std.proofs.lemmas.Bool.{false≢true}
 use Rattle.xc_base.specs.declared.fault.FileFault.{FileFault}
@@ -7,7 +7,7 @@ use Rattle.xc_base.specs.declared.fault.FileFault.TheVariants.{NotYet, NoStateme
 use Rattle.xc_base.specs.declared.fault.Part.TheVariants as parts
 use Rattle.xc_base.specs.declared.fault.Counted.TheVariants as counted
 use Rattle.xc_base.specs.Operators.{Front, behind, chained, chain, chain_up_to, Shortens, Begins}
-use Rattle.xc_base.specs.Formats.{Format, Row, Excess, IsFaultless, HasFault, AreStatements, IsAccepted, IsFirstFault}
+use Rattle.xc_base.specs.Formats.{Format, Row, IsFaultless, HasFault, IsAccepted, IsFirstFault}
 use Rattle.xc_base.specs.Formats.HasFault.{not_yet, no_statement, repeated as said_again, unknown, count}
 use Rattle.xc_base.specs.Formats.AreStatements.{none, next}
 use Rattle.xc_base.specs.Formats.IsFirstFault.{in_row, lacking}

@@ -1,8 +1,7 @@
 -- Lattice files and the laws at small cases whose values are known from outside.
-use Rattle.std.proofs.Common.{◌≡◌, ◌<◌, ℕ, Bool, true, false, List, [], ◌∷◌, ◌++◌, map, replicate, Some, None, Result, Ok, Err, codes, refl, sym, arith}
+use Rattle.std.proofs.Common.{◌≡◌, ℕ, true, false, List, [], ◌∷◌, ◌++◌, replicate, Some, None, Result, Ok, Err, codes, refl, arith}
 use Rattle.std.proofs.lemmas.Bool.{false≢true}
 use Rattle.xc_theory.specs.Bounds.{first_meet, first_join}
-use Rattle.xc_theory.specs.Lattices.{LatticeData}
 use Rattle.xc_theory.proofs.Facts.{two, chain, diamond, m3, peak, circle}
 use Rattle.xc_base.specs.declared.fault.FileFault.{FileFault}
 use Rattle.xc_base.specs.declared.fault.FileFault.TheVariants.{NoStatement, Repeated, Unknown, Count, Missing}
@@ -10,16 +9,16 @@ use Rattle.xc_base.specs.declared.fault.Part.TheVariants as parts
 use Rattle.xc_base.specs.declared.fault.Counted.TheVariants as counted
 use Rattle.xc_base.specs.Text.{lines_of, tokens_from, rows_from}
 use Rattle.xc_base.specs.Lines.{text_rows}
-use Rattle.xc_base.specs.Formats.{Row, IsFirstFault}
+use Rattle.xc_base.specs.Formats.{Row}
 use Rattle.xc_base.specs.Formats.AreStatements.{none}
 use Rattle.xc_base.specs.Formats.IsFirstFault.{lacking}
 use Rattle.xc_base.specs.Deciding.{line_of, statements_of, file_of, statement_fault}
 use Rattle.xc_lattice.specs.declared.law.Law.TheVariants.{Antisymmetry, Meet, Join, Distributive, Involution, Antitone}
 use Rattle.xc_lattice.specs.declared.statement.Statement.{Statement}
 use Rattle.xc_lattice.specs.declared.statement.Statement.TheVariants as stated
-use Rattle.xc_lattice.specs.Breaks.{breaks, tuples, first_tuple, first_break}
+use Rattle.xc_lattice.specs.Breaks.{tuples, first_tuple, first_break}
 use Rattle.xc_lattice.specs.Deciding.{decide}
-use Rattle.xc_lattice.specs.LatticeFiles.{LatticeValue, IsDue, is_due, is_repeated, is_unknown, element_excess, missing_part, lattice_format, Says, IsVerdict, IsLattice}
+use Rattle.xc_lattice.specs.LatticeFiles.{LatticeValue, IsDue, is_repeated, is_unknown, element_excess, lattice_format, Says, IsVerdict, IsLattice}
 use Rattle.xc_lattice.specs.LatticeFiles.Verdict.{Faulty}
 use Rattle.xc_lattice.specs.Drafts.{pairs_of, negations_of}
 use Rattle.xc_lattice.specs.Values.{IsFirstBreak}

@@ -1,5 +1,5 @@
 -- The order of pairs, the steps to it and its height at small cases whose values are known from outside.
-use Rattle.std.proofs.Common.{◌≡◌, ◌<◌, ◌≤◌, ℕ, zero, suc, Bool, true, false, ◌&&◌, ◌||◌, not, eqb, List, [], ◌∷◌, length, map, take, get_or, refl, ap, arith}
+use Rattle.std.proofs.Common.{◌≡◌, ◌<◌, ℕ, zero, suc, Bool, true, false, ◌||◌, not, eqb, List, [], ◌∷◌, length, map, get_or, refl, ap, arith}
 use Rattle.std.specs.List.{list_all, range_with_len}
 use Rattle.std.proofs.lemmas.Bool.{eqb-true, false≢true}
 use Rattle.xc_theory.specs.Orders.{is_below, IsAntisymmetric}
@@ -11,7 +11,7 @@ use Rattle.xc_order.specs.declared.order.Pair.{Pair}
 use Rattle.xc_order.specs.Pairs.{IsListed, AreBelow}
 use Rattle.xc_order.specs.Order.{IsOrder, IsMatrix, table_of}
 use Rattle.xc_order.specs.Closure.{own_rows, joined_row, closed_through}
-use Rattle.xc_order.specs.Heights.{is_over, steps_up, greatest_level, is_alone}
+use Rattle.xc_order.specs.Heights.{is_over, steps_up, is_alone}
 use Rattle.xc_order.proofs.Heights.{IsHeight-from_levels, alone_decides}
 
 -- M is below T

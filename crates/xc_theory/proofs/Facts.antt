@@ -1,5 +1,5 @@
 -- The definitions at small lattices whose values are known from outside: a wrong definition does not check here.
-use Rattle.std.proofs.Common.{◌≡◌, ◌≢◌, ◌<◌, ◌≤◌, ◌+◌, ℕ, zero, suc, Bool, true, false, List, [], ◌∷◌, length, Some, None, refl, arith}
+use Rattle.std.proofs.Common.{◌≡◌, ◌≢◌, ◌<◌, ◌≤◌, ◌+◌, ℕ, Bool, true, false, List, [], ◌∷◌, length, Some, None, refl, arith}
 use Rattle.std.proofs.lemmas.Bool.{false≢true}
 use Rattle.xc_theory.specs.Orders.{IsSquare, IsAntisymmetric, Leads, Reaches, IsSpannedBy}
 use Rattle.xc_theory.specs.Bounds.{IsMeet, IsJoin, first_meet, first_join, meet_of}
