@@ -92,9 +92,9 @@ impl Algebra for AnyTable {
     }
 
     ghost lawful = { elim [
-        | T4 table ↦ (table.tells.lawful, table.tells.several, tt)
-        | T16 table ↦ (table.tells.lawful, table.tells.several, tt)
-        | T64 table ↦ (table.value.tells.lawful, table.value.tells.several, tt)
+      | T4 table ↦ (table.tells.lawful, table.tells.several, tt)
+      | T16 table ↦ (table.tells.lawful, table.tells.several, tt)
+      | T64 table ↦ (table.value.tells.lawful, table.value.tells.several, tt)
     ] };
 
     ghost laws = { elim [ T4 table ↦ table.laws | T16 table ↦ table.laws | T64 table ↦ table.value.laws ] };

@@ -1,5 +1,5 @@
 -- Codes and their digits, one part after the other.
-use Rattle.std.proofs.Common.{◌≡◌, ℕ, zero, suc, ◌+◌, ◌*◌, ◌/◌, ◌%◌, ◌<◌, ◌≤◌, List, [], ◌∷◌, length, get_or, set, map, drop, refl, sym, ap, subst, ◌∙◌, add-one, drop-cons, arith}
+use Rattle.std.proofs.Common.{◌≡◌, ℕ, zero, suc, ◌+◌, ◌*◌, ◌/◌, ◌%◌, ◌<◌, ◌≤◌, List, [], ◌∷◌, length, get_or, set, map, drop, refl, sym, ap, ◌∙◌, add-one, drop-cons, arith}
 use Rattle.xc_theory.specs.Bounds.{join_of}
 use Rattle.xc_theory.specs.Lattices.{LatticeData, size, bottom}
 use Rattle.xc_theory.specs.Codes.{total, digits, code_of, AreDigits}

@@ -1,6 +1,5 @@
 -- What the definitions say of the product of two elements, F and T, and a chain of three, F, M and T.
-use Rattle.std.proofs.Common.{◌≡◌, ℕ, Bool, true, false, List, [], ◌∷◌, map, set, refl, arith}
-use Rattle.std.specs.List.{sum}
+use Rattle.std.proofs.Common.{◌≡◌, ℕ, true, false, List, [], ◌∷◌, map, set, refl, arith}
 use Rattle.xc_theory.specs.Bounds.{first_meet, first_join}
 use Rattle.xc_theory.specs.Lattices.{LatticeData, bottom}
 use Rattle.xc_theory.specs.Codes.{total, digits, code_of}

@@ -1,12 +1,12 @@
 -- The pairs of elements that are below each other span the order of a lattice, and heights add up.
-use Rattle.std.proofs.Common.{◌≡◌, ℕ, zero, suc, ◌+◌, ◌*◌, ◌<◌, ◌≤◌, Bool, true, false, List, [], ◌∷◌, ◌++◌, length, get_or, drop, inl, inr, refl, sym, ap, subst, ◌∙◌, arith}
-use Rattle.std.specs.List.{sum, All, Contains}
+use Rattle.std.proofs.Common.{◌≡◌, ℕ, zero, suc, ◌+◌, ◌<◌, ◌≤◌, Bool, true, false, List, [], ◌∷◌, ◌++◌, length, get_or, drop, inl, inr, refl, sym, ap, subst, ◌∙◌, arith}
+use Rattle.std.specs.List.{sum, Contains}
 use Rattle.std.proofs.lemmas.Bool.{cases_eq, both_ways}
 use Rattle.std.proofs.lemmas.List.Elements.{Contains-append_left, Contains-append_right, Contains-append_cases, All-weaker, All-contains_itself}
 use Rattle.std.proofs.lemmas.List.Sums.{sum_by-cons}
 use Rattle.std.proofs.Math.Logic.{∥∥₁_elim, ∥∥₁_prop}
 use Rattle.std.proofs.Math.Nat.{ℕ_set}
-use Rattle.xc_theory.specs.Orders.{is_below, IsAntisymmetric, Leads, Reaches, IsSpannedBy}
+use Rattle.xc_theory.specs.Orders.{IsAntisymmetric, Leads, IsSpannedBy}
 use Rattle.xc_theory.specs.Chains.{IsHeight}
 use Rattle.xc_theory.specs.Lattices.{LatticeData, IsLawful, size, below}
 use Rattle.xc_theory.proofs.Orders.{Reaches-step, spanned_once}

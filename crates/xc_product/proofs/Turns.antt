@@ -1,7 +1,6 @@
 -- One turn of a loop over the parts: a digit of one part, and the rest, which is a code of the parts after it.
 use Rattle.std.proofs.Common.{◌≡◌, ℕ, zero, suc, ◌+◌, ◌*◌, ◌/◌, ◌%◌, ◌<◌, ◌≤◌, Bool, true, ◌&&◌, List, [], ◌∷◌, length, get_or, drop, refl, sym, ap, subst, ◌∙◌, add-one, drop-cons, arith}
-use Rattle.std.proofs.lemmas.Nat.{div_below, mod_below, mul-le}
-use Rattle.xc_theory.specs.Lattices.{size, below, meet, join, negation, bottom, top}
+use Rattle.std.proofs.lemmas.Nat.{div_below, mod_below}
 use Rattle.xc_alg.specs.Operations.{Operations}
 use Rattle.xc_alg.specs.Products.{product}
 use Rattle.xc_alg.specs.AnyTables.{lattice_in_any}

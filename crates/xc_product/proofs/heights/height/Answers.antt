@@ -1,4 +1,4 @@
-use Rattle.std.proofs.Common.{Bool, List, arith, sym, subst}
+use Rattle.std.proofs.Common.{Bool, List, sym, subst}
 use Rattle.xc_theory.specs.Orders.{IsAntisymmetric}
 use Rattle.xc_theory.specs.Chains.{IsHeight}
 use Rattle.xc_alg.specs.AnyTables.{lattice_in_any}

@@ -1,4 +1,4 @@
-use Rattle.std.proofs.Common.{◌≡◌, List, ◌+◌, arith, sym, subst, ◌∙◌}
+use Rattle.std.proofs.Common.{List, ◌+◌, arith, sym, subst, ◌∙◌}
 use Rattle.xc_alg.specs.AnyTables.{lattice_in_any}
 use Rattle.xc_alg.proofs.Tables.{product_size, product_below}
 use Rattle.xc_order.specs.declared.order.Pair.{Pair}

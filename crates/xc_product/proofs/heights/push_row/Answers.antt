@@ -1,4 +1,4 @@
-use Rattle.std.proofs.Common.{◌≡◌, ℕ, arith, subst, ◌∙◌}
+use Rattle.std.proofs.Common.{◌≡◌, ℕ, arith, subst}
 use Rattle.xc_theory.specs.Lattices.{size}
 use Rattle.xc_alg.specs.AnyTables.{lattice_in_any}
 use Rattle.xc_product.specs.Heights.{OnRow}

@@ -1,4 +1,4 @@
-use Rattle.std.proofs.Common.{arith, get_or, ◌≢◌, ℕ, ◌<◌, length, get_or-set_same, get_or-set_other, length-set, below_more, ◌∙◌}
+use Rattle.std.proofs.Common.{arith, ◌≢◌, ◌<◌, length, get_or-set_same, get_or-set_other, length-set, below_more, ◌∙◌}
 use Rattle.xc_product.proofs.Sizes.{weight_less}
 use Rattle.xc_product.proofs.weights.weights.Goals as goal
 

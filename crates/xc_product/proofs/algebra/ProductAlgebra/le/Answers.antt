@@ -1,4 +1,4 @@
-use Rattle.std.proofs.Common.{◌≡◌, Bool, true, false, ◌&&◌, arith, refl, sym, ◌∙◌, get_or}
+use Rattle.std.proofs.Common.{◌≡◌, Bool, true, false, ◌&&◌, arith, sym, ◌∙◌, get_or}
 use Rattle.xc_product.proofs.Turns.{digit_in, below_turn, past_below}
 use Rattle.xc_product.proofs.algebra.ProductAlgebra.le.Goals as goal
 

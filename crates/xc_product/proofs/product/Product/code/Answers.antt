@@ -1,4 +1,4 @@
-use Rattle.std.proofs.Common.{arith, get_or, ◌∙◌, drop}
+use Rattle.std.proofs.Common.{arith, get_or, drop}
 use Rattle.xc_product.proofs.Digits.{code_past, code_turn, code_within, digits-length}
 use Rattle.xc_product.proofs.product.Product.code.Goals as goal
 

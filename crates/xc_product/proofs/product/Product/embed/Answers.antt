@@ -1,7 +1,6 @@
 use Rattle.std.proofs.Common.{arith, get_or}
 use Rattle.std.proofs.lemmas.List.{length-map}
 use Rattle.xc_alg.specs.AnyTables.{lattice_in_any}
-use Rattle.xc_product.specs.Lawful.{lawful_product}
 use Rattle.xc_product.proofs.Digits.{bottom_at, embed_code, embed_within}
 use Rattle.xc_product.proofs.product.Product.embed.Goals as goal
 
