@@ -1,0 +1,13 @@
+pub mod Sizes
+pub mod Tokens
+pub mod Pairs
+pub mod Finding
+pub mod Following
+pub mod Fair
+pub mod Deciding
+pub mod Reading
+pub mod Gathering
+pub mod Sound
+pub mod Gathered
+pub mod Verdicts
+pub mod Keeping

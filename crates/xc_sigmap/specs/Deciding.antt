@@ -5,6 +5,7 @@ use Rattle.std.specs.Option.{option_map}
 use Rattle.std.specs.Str.{bytes_eq}
 use Rattle.xc_base.specs.Words.{is_name, is_file_word}
 use Rattle.xc_expr.specs.Written.{is_variable_name, is_value_name}
+use Rattle.xc_sigmap.specs.declared.parts.Told.{Told}
 use Rattle.xc_sigmap.specs.declared.parts.Told.TheVariants.{Named, Constant}
 use Rattle.xc_sigmap.specs.declared.statement.Pair.{Pair}
 use Rattle.xc_sigmap.specs.declared.statement.Statement.{Statement}
@@ -52,14 +53,31 @@ pairs_in (value ∷ mark ∷ []) = None
 pairs_in (value ∷ mark ∷ word ∷ more) = if is_pair value mark word then option_map (λ (pairs : List Pair). record { from = value; to = word } ∷ pairs) (pairs_in more) else None
 
 -- a viewpoint, its variable, a variable of the map, and pairs
+abbrev pub send_parts : List ℕ → List ℕ → List ℕ → List (List ℕ) → Option Statement
+send_parts viewpoint variable source tokens = if is_name viewpoint && is_name variable && is_name source then option_map (Send viewpoint variable source) (pairs_in tokens) else None
+
 abbrev pub send_line : List (List ℕ) → Option Statement
-send_line (viewpoint ∷ variable ∷ source ∷ tokens) = if is_name viewpoint && is_name variable && is_name source then option_map (Send viewpoint variable source) (pairs_in tokens) else None
-send_line _ = None
+send_line [] = None
+send_line (viewpoint ∷ []) = None
+send_line (viewpoint ∷ variable ∷ []) = None
+send_line (viewpoint ∷ variable ∷ source ∷ tokens) = send_parts viewpoint variable source tokens
+
+-- a proposition's name, or `as` and a value
+abbrev pub named_told : List ℕ → Option Told
+named_told name = if is_name name then Some (Named name) else None
+
+abbrev pub constant_told : List ℕ → List ℕ → Option Told
+constant_told mark value = if bytes_eq mark (codes "as") && is_name value then Some (Constant value) else None
+
+abbrev pub told_in : List (List ℕ) → Option Told
+told_in [] = None
+told_in (name ∷ []) = named_told name
+told_in (mark ∷ value ∷ []) = constant_told mark value
+told_in (mark ∷ value ∷ other ∷ more) = None
 
 -- a viewpoint, a proposition, and what it tells of it
 abbrev pub tell_line : List (List ℕ) → Option Statement
-tell_line (viewpoint ∷ prop ∷ name ∷ []) = given (is_name viewpoint && is_name prop && is_name name) (Tell viewpoint prop (Named name))
-tell_line (viewpoint ∷ prop ∷ as_ ∷ value ∷ []) = given (bytes_eq as_ (codes "as") && is_name viewpoint && is_name prop && is_name value) (Tell viewpoint prop (Constant value))
+tell_line (viewpoint ∷ prop ∷ tokens) = if is_name viewpoint && is_name prop then option_map (Tell viewpoint prop) (told_in tokens) else None
 tell_line _ = None
 
 -- a viewpoint and a value

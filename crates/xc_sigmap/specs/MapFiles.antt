@@ -224,11 +224,14 @@ excess_of before (Tell viewpoint prop told) = None
 excess_of before (Stutter viewpoint value) = None
 
 -- the name, then a viewpoint, then a variable
+abbrev pub later_part : List Statement → Option Part
+later_part statements =
+    if not (nat_lt 0 (length (uses_of statements))) then Some parts.Uses else
+    if not (nat_lt 0 (length (vars_of statements))) then Some parts.Var else None
+
 abbrev pub missing_part : List Statement → Option Part
 missing_part [] = Some parts.Head
-missing_part (s ∷ more) =
-    if not (nat_lt 0 (length (uses_of (s ∷ more)))) then Some parts.Uses else
-    if not (nat_lt 0 (length (vars_of (s ∷ more)))) then Some parts.Var else None
+missing_part (s ∷ more) = later_part (s ∷ more)
 
 -- What a map file says. A viewpoint, a variable of the map, its values and its propositions are named by their places; what a
 -- viewpoint has of its own stays a word, since the file does not say what there is.

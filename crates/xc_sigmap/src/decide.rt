@@ -3,7 +3,7 @@ ghost use Rattle.std.specs.List.{list_all};
 ghost use Rattle.xc_base.specs.Lines.{texts};
 ghost use Rattle.xc_expr.specs.Written.{is_value_name as is_value_text};
 ghost use Rattle.xc_sigmap.specs.Deciding.{map_line, use_line, var_line, prop_line};
-ghost use Rattle.xc_sigmap.specs.Deciding.{first_pair, pairs_in, send_line, tell_line, stutter_line, word_line, line};
+ghost use Rattle.xc_sigmap.specs.Deciding.{first_pair, pairs_in, send_parts, send_line, named_told, constant_told, told_in, tell_line, stutter_line, word_line, line};
 
 use crate::parts::{Told, Use};
 use crate::statement::{Pair, Statement};
@@ -106,6 +106,7 @@ fn first_pair(alloc: Global, tokens: &[Lexeme]) -> Result<Option<Pair>, Memory>
 }
 
 /// The pairs that the tokens are, where they are pairs and nothing else.
+#[tactic(auto, using(crate::proofs::Pairs::pairs_end))]
 fn pairs(alloc: Global, tokens: &[Lexeme]) -> Result<Option<List<Pair>>, Memory>
     ensures { IfOk result (λ pairs. pairs ≡ pairs_in (texts tokens.now)) }
 {
@@ -121,22 +122,66 @@ fn pairs(alloc: Global, tokens: &[Lexeme]) -> Result<Option<List<Pair>>, Memory>
     Ok(Some(pairs))
 }
 
+fn send_parts(
+    alloc: Global,
+    viewpoint: &[u8],
+    variable: &[u8],
+    source: &[u8],
+    tokens: &[Lexeme],
+) -> Result<Option<Statement>, Memory>
+    ensures { IfOk result
+        (λ s. s ≡ send_parts viewpoint.now variable.now source.now (texts tokens.now)) }
+{
+    if is_name_text(viewpoint) && is_name_text(variable) && is_name_text(source) {
+        let Some(pairs) = pairs(alloc, tokens)? else {
+            return Ok(None);
+        };
+        let viewpoint = Word::of(alloc, viewpoint)?;
+        let variable = Word::of(alloc, variable)?;
+        let source = Word::of(alloc, source)?;
+        return Ok(Some(Statement::Send(viewpoint, variable, source, pairs)));
+    }
+    Ok(None)
+}
+
+#[tactic(auto, using(crate::proofs::Pairs::too_few))]
 fn send_line(alloc: Global, tokens: &[Lexeme]) -> Result<Option<Statement>, Memory>
     ensures { IfOk result (λ s. s ≡ send_line (texts tokens.now)) }
 {
     match tokens {
-        [viewpoint, variable, source, tokens @ ..]
-            if is_name_text(viewpoint.text)
-                && is_name_text(variable.text)
-                && is_name_text(source.text) => {
-            let Some(pairs) = pairs(alloc, tokens)? else {
-                return Ok(None);
-            };
-            let viewpoint = Word::of(alloc, viewpoint.text)?;
-            let variable = Word::of(alloc, variable.text)?;
-            let source = Word::of(alloc, source.text)?;
-            Ok(Some(Statement::Send(viewpoint, variable, source, pairs)))
+        [viewpoint, variable, source, tokens @ ..] => {
+            send_parts(alloc, viewpoint.text, variable.text, source.text, tokens)
         }
+        _ => Ok(None),
+    }
+}
+
+fn named_told(alloc: Global, name: &[u8]) -> Result<Option<Told>, Memory>
+    ensures { IfOk result (λ t. t ≡ named_told name.now) }
+{
+    if is_name_text(name) {
+        let name = Word::of(alloc, name)?;
+        return Ok(Some(Told::Named(name)));
+    }
+    Ok(None)
+}
+
+fn constant_told(alloc: Global, mark: &[u8], value: &[u8]) -> Result<Option<Told>, Memory>
+    ensures { IfOk result (λ t. t ≡ constant_told mark.now value.now) }
+{
+    if mark == b"as".as_slice() && is_name_text(value) {
+        let value = Word::of(alloc, value)?;
+        return Ok(Some(Told::Constant(value)));
+    }
+    Ok(None)
+}
+
+fn told(alloc: Global, tokens: &[Lexeme]) -> Result<Option<Told>, Memory>
+    ensures { IfOk result (λ t. t ≡ told_in (texts tokens.now)) }
+{
+    match tokens {
+        [name] => named_told(alloc, name.text),
+        [mark, value] => constant_told(alloc, mark.text, value.text),
         _ => Ok(None),
     }
 }
@@ -145,23 +190,13 @@ fn tell_line(alloc: Global, tokens: &[Lexeme]) -> Result<Option<Statement>, Memo
     ensures { IfOk result (λ s. s ≡ tell_line (texts tokens.now)) }
 {
     match tokens {
-        [viewpoint, prop, name]
-            if is_name_text(viewpoint.text)
-                && is_name_text(prop.text)
-                && is_name_text(name.text) => {
+        [viewpoint, prop, tokens @ ..]
+            if is_name_text(viewpoint.text) && is_name_text(prop.text) => {
+            let Some(told) = told(alloc, tokens)? else {
+                return Ok(None);
+            };
             let viewpoint = Word::of(alloc, viewpoint.text)?;
             let prop = Word::of(alloc, prop.text)?;
-            let told = Told::Named(Word::of(alloc, name.text)?);
-            Ok(Some(Statement::Tell(viewpoint, prop, told)))
-        }
-        [viewpoint, prop, as_word, value]
-            if as_word.text == b"as".as_slice()
-                && is_name_text(viewpoint.text)
-                && is_name_text(prop.text)
-                && is_name_text(value.text) => {
-            let viewpoint = Word::of(alloc, viewpoint.text)?;
-            let prop = Word::of(alloc, prop.text)?;
-            let told = Told::Constant(Word::of(alloc, value.text)?);
             Ok(Some(Statement::Tell(viewpoint, prop, told)))
         }
         _ => Ok(None),

@@ -30,7 +30,7 @@ impl Draft {
     /// The statements of the draft and one more.
     pub(crate) fn with(self, alloc: Global, s: Statement) -> Result<Draft, Memory>
         requires { IsFair (self.statements ++ s ∷ []) }
-        ensures { IfOk result (λ d. d.statements ≡ self.entry.statements ++ s.entry ∷ []) }
+        ensures { IfOk result (λ d. d.statements ≡ self.statements ++ s ∷ []) }
     {
         let Draft {
             mut statements,

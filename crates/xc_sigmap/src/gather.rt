@@ -27,7 +27,7 @@ fn map_name(alloc: Global, s: &Statement) -> Result<Word, Memory>
 }
 
 /// The place of a viewpoint's name, which is there.
-#[tactic(auto, using(crate::proofs::Lookup::found_at, crate::proofs::Lookup::found_within, crate::proofs::Lookup::none_is_among))]
+#[tactic(auto, using(crate::proofs::Finding::found_at, crate::proofs::Finding::found_within, crate::proofs::Finding::none_is_among))]
 fn use_number(uses: &[Use], name: &Word) -> u8
     requires known { is_among (use_names uses.now) name.now ≡ true }
     requires few { length uses.now ≤ use_limit }
@@ -40,7 +40,7 @@ fn use_number(uses: &[Use], name: &Word) -> u8
 }
 
 /// The place of a variable's name, which is there.
-#[tactic(auto, using(crate::proofs::Lookup::found_at, crate::proofs::Lookup::found_within, crate::proofs::Lookup::none_is_among))]
+#[tactic(auto, using(crate::proofs::Finding::found_at, crate::proofs::Finding::found_within, crate::proofs::Finding::none_is_among))]
 fn var_number(vars: &[Domain], name: &Word) -> usize
     requires { is_among (names_of vars.now) name.now ≡ true }
     ensures is { result ≡ place_of (names_of vars.now) name.now }
@@ -53,7 +53,7 @@ fn var_number(vars: &[Domain], name: &Word) -> usize
 }
 
 /// The place of a proposition's name, which is there.
-#[tactic(auto, using(crate::proofs::Lookup::found_at, crate::proofs::Lookup::found_within, crate::proofs::Lookup::none_is_among))]
+#[tactic(auto, using(crate::proofs::Finding::found_at, crate::proofs::Finding::found_within, crate::proofs::Finding::none_is_among))]
 fn prop_number(props: &[Word], name: &Word) -> u16
     requires known { is_among props.now name.now ≡ true }
     requires few { length props.now ≤ prop_limit }
@@ -66,7 +66,7 @@ fn prop_number(props: &[Word], name: &Word) -> u16
 }
 
 /// What a pair carries, of a variable that has its value.
-#[tactic(auto, using(crate::proofs::Lookup::found_at, crate::proofs::Lookup::found_within, crate::proofs::Lookup::none_is_among))]
+#[tactic(auto, using(crate::proofs::Finding::found_at, crate::proofs::Finding::found_within, crate::proofs::Finding::none_is_among))]
 fn carry(alloc: Global, values: &[Word], pair: &Pair) -> Result<Carry, Memory>
     requires known { is_among values.now pair.now.from ≡ true }
     requires few { length values.now ≤ 16 }
@@ -80,7 +80,7 @@ fn carry(alloc: Global, values: &[Word], pair: &Pair) -> Result<Carry, Memory>
     Ok(Carry { value, word })
 }
 
-#[tactic(auto, using(crate::proofs::Lookup::carried_at))]
+#[tactic(auto, using(crate::proofs::Finding::carried_at))]
 fn carries(alloc: Global, values: &[Word], pairs: &[Pair]) -> Result<List<Carry>, Memory>
     requires known { list_all (is_among values.now) (carried_names pairs.now) ≡ true }
     requires few { length values.now ≤ 16 }
@@ -118,6 +118,7 @@ fn push_send(
     }
     Ok(())
 }
+
 
 #[tactic(auto, using(crate::proofs::Gathering::sends_from, crate::proofs::Gathering::known_at))]
 fn send_lines(
@@ -168,6 +169,7 @@ fn push_tell(
     Ok(())
 }
 
+
 #[tactic(auto, using(crate::proofs::Gathering::tells_from, crate::proofs::Gathering::known_at))]
 fn tells(alloc: Global, names: &Names, statements: &[Statement]) -> Result<List<Tell>, Memory>
     requires few { AreFew names.now }
@@ -199,6 +201,7 @@ fn push_stutter(
     Ok(())
 }
 
+
 #[tactic(auto, using(crate::proofs::Gathering::stutters_from, crate::proofs::Gathering::known_at))]
 fn stutters(
     alloc: Global,
@@ -219,7 +222,7 @@ fn stutters(
 /// What the statements of a whole file say.
 pub(crate) fn gather(alloc: Global, draft: Draft) -> Result<SigMap, Memory>
     requires { missing_part draft.statements ≡ None }
-    ensures { IfOk result (λ m. value_of m ≡ map_of draft.entry.statements) }
+    ensures { IfOk result (λ m. value_of m ≡ map_of draft.statements) }
 {
     let Draft { statements, names } = draft;
     let statements = statements.as_slice();

@@ -15,7 +15,7 @@ use xc_base::{FileFault, Word, has_twice, is_among};
 use xc_expr::Domain;
 
 /// Whether there is a viewpoint of the name.
-#[tactic(auto, using(crate::proofs::Lookup::found_is_among, crate::proofs::Lookup::none_is_among))]
+#[tactic(auto, using(crate::proofs::Finding::found_is_among, crate::proofs::Finding::none_is_among))]
 fn has_use(uses: &[Use], name: &Word) -> bool
     ensures { result ≡ is_among (use_names uses.now) name.now }
 {
@@ -23,7 +23,7 @@ fn has_use(uses: &[Use], name: &Word) -> bool
 }
 
 /// Whether there is a variable of the name.
-#[tactic(auto, using(crate::proofs::Lookup::found_is_among, crate::proofs::Lookup::none_is_among))]
+#[tactic(auto, using(crate::proofs::Finding::found_is_among, crate::proofs::Finding::none_is_among))]
 fn has_var(vars: &[Domain], name: &Word) -> bool
     ensures { result ≡ is_among (names_of vars.now) name.now }
 {
@@ -67,7 +67,6 @@ fn is_carried(pairs: &[Pair], name: &Word) -> bool
 }
 
 /// Whether a value stands twice in pairs.
-#[tactic(auto, using(crate::proofs::Lookup::carried_from))]
 fn carries_twice(pairs: &[Pair]) -> bool
     ensures { result ≡ has_twice (carried_names pairs.now) }
 {
@@ -103,7 +102,7 @@ fn are_values(values: &[Word], pairs: &[Pair]) -> bool
 }
 
 /// Whether there is a variable of the name, with all values that the pairs carry.
-#[tactic(auto, using(crate::proofs::Lookup::source_found, crate::proofs::Lookup::source_lacks))]
+#[tactic(auto, using(crate::proofs::Finding::source_lacks))]
 fn has_source(vars: &[Domain], source: &Word, pairs: &[Pair]) -> bool
     ensures { result ≡ (is_among (names_of vars.now) source.now && list_all (is_among (values_named vars.now source.now)) (carried_names pairs.now)) }
 {

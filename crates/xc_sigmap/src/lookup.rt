@@ -23,7 +23,7 @@ fn use_place(uses: &[Use], name: &Word) -> Option<usize>
 }
 
 /// The place of the viewpoint of a name.
-#[tactic(auto, using(crate::proofs::Lookup::use_position))]
+#[tactic(auto, using(crate::proofs::Finding::use_position))]
 pub(crate) fn find_use(uses: &[Use], name: &Word) -> Option<usize>
     ensures { result ≡ position (bytes_eq name.now) (use_names uses.now) }
 {
@@ -43,7 +43,7 @@ fn var_place(vars: &[Domain], name: &Word) -> Option<usize>
 }
 
 /// The place of the variable of a name.
-#[tactic(auto, using(crate::proofs::Lookup::var_position))]
+#[tactic(auto, using(crate::proofs::Finding::var_position))]
 pub(crate) fn find_var(vars: &[Domain], name: &Word) -> Option<usize>
     ensures { result ≡ position (bytes_eq name.now) (names_of vars.now) }
 {

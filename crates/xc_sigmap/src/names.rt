@@ -70,7 +70,7 @@ impl Names {
 
     /// What these declare, and one statement more.
     pub(crate) fn with(self, alloc: Global, s: &Statement) -> Result<Names, Memory>
-        ensures { IfOk result (λ names. names ≡ record { uses = self.entry.uses ++ uses_of (s.now ∷ []); vars = self.entry.vars ++ vars_of (s.now ∷ []); props = self.entry.props ++ props_of (s.now ∷ []) }) }
+        ensures { IfOk result (λ names. names ≡ record { uses = self.uses ++ uses_of (s.now ∷ []); vars = self.vars ++ vars_of (s.now ∷ []); props = self.props ++ props_of (s.now ∷ []) }) }
     {
         let Names {
             mut uses,
