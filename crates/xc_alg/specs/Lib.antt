@@ -4,3 +4,4 @@ pub mod Bounds
 pub mod Laws
 pub mod Tables
 pub mod OpTables
+pub mod AnyTables

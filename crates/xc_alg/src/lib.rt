@@ -4,10 +4,12 @@
 #![tactic(auto)]
 
 mod algebra;
+mod any_table;
 mod laws;
 mod op_table;
 
 pub use algebra::{Algebra, implies, laws_hold};
+pub use any_table::AnyTable;
 pub use laws::{
     bounds_of_lists, distributive_laws, lattice_laws, monotone_laws, negation_laws,
     products_are_algebras,

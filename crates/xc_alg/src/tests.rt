@@ -1,7 +1,8 @@
 //! The calls of an algebra at tables that are written out, each through the bound, against values by hand.
 
-use crate::{Algebra, OpTable, implies};
+use crate::{Algebra, AnyTable, OpTable, implies};
 use std::process::Abort;
+use std::test::Fail;
 
 // F is 0 and T is 1.
 fn two() -> OpTable<4> {
@@ -11,6 +12,29 @@ fn two() -> OpTable<4> {
         [[0, 1, 0, 0], [1, 1, 0, 0], [0; 4], [0; 4]],
         [1, 0, 0, 0],
     )
+}
+
+// The same in tables of 16 and of 64.
+fn two_in_16() -> OpTable<16> {
+    let mut meet = [[0; 16]; 16];
+    meet[1][1] = 1;
+    let mut join = meet;
+    join[0][1] = 1;
+    join[1][0] = 1;
+    let mut neg = [0; 16];
+    neg[0] = 1;
+    OpTable::of(2, meet, join, neg)
+}
+
+fn two_in_64() -> OpTable<64> {
+    let mut meet = [[0; 64]; 64];
+    meet[1][1] = 1;
+    let mut join = meet;
+    join[0][1] = 1;
+    join[1][0] = 1;
+    let mut neg = [0; 64];
+    neg[0] = 1;
+    OpTable::of(2, meet, join, neg)
 }
 
 // F is 0, N is 1, B is 2 and T is 3; N and B are their own negations.
@@ -85,4 +109,19 @@ fn the_two_elements(rt: HostRuntime) {
 fn the_diamond(rt: HostRuntime) {
     check_diamond(&rt, &diamond());
     check_diamond(&rt, &wide_diamond());
+}
+
+#[test]
+fn tables_of_three_sizes(rt: HostRuntime) -> Result<(), Fail> {
+    let tables = [
+        AnyTable::T4(two()),
+        AnyTable::T16(two_in_16()),
+        AnyTable::T64(Box::new(rt.alloc(), two_in_64())?),
+    ];
+    for table in &tables {
+        check_two(&rt, table);
+        check_two(&rt, &table.copy(rt.alloc())?);
+    }
+    check_diamond(&rt, &AnyTable::T4(diamond()).copy(rt.alloc())?);
+    Ok(())
 }

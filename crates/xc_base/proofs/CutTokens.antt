@@ -10,10 +10,10 @@ use Rattle.xc_base.specs.Words.{is_word_byte}
 use Rattle.xc_base.specs.Cutting.{token_size}
 
 -- what two bytes have that join: they are of one kind, and the second is none of the low bytes
-abbrev AreAlike : ℕ → ℕ → Type 0
+abbrev pub AreAlike : ℕ → ℕ → Type 0
 AreAlike b c = (is_word_byte c ≡ is_word_byte b) × (45 < c)
 
-word_byte_above : (c : ℕ) → is_word_byte c ≡ true → 45 < c
+pub word_byte_above : (c : ℕ) → is_word_byte c ≡ true → 45 < c
 word_byte_above c h = grind (arith, common_steps)
 
 words_alike : (b c : ℕ) → (is_word_byte b && is_word_byte c) ≡ true → AreAlike b c
@@ -26,7 +26,7 @@ symbols_alike b c m n wm wn above h =
     let f : c ≡ n = eqb-true c n p.1 in
     (ap is_word_byte f ∙ (wn ∙ (sym wm ∙ ap is_word_byte (sym e))), omega arith)
 
-joined_alike : (b c : ℕ) → joins b c ≡ true → AreAlike b c
+pub joined_alike : (b c : ℕ) → joins b c ≡ true → AreAlike b c
 joined_alike b c h =
     elim (or_cases _ _ h) [
       | inl h ↦
@@ -38,21 +38,21 @@ joined_alike b c h =
       | inr h ↦ symbols_alike b c 33 61 refl refl (omega arith) h
     ]
 
-above_not_blank : (c : ℕ) → 45 < c → is_blank c ≡ false
+pub above_not_blank : (c : ℕ) → 45 < c → is_blank c ≡ false
 above_not_blank c h = grind (arith, common_steps)
 
-above_not_comment : (c : ℕ) → 45 < c → eqb c 35 ≡ false
+pub above_not_comment : (c : ℕ) → 45 < c → eqb c 35 ≡ false
 above_not_comment c h = grind (arith, common_steps)
 
 blank_not_comment : (b : ℕ) → is_blank b ≡ true → eqb b 35 ≡ false
 blank_not_comment b h = grind (arith, common_steps)
 
 -- the size of a token by its first byte
-token_size_ends : (b : ℕ) (xs : List ℕ) → joins_next b xs ≡ false → token_size (b ∷ xs) ≡ 1
+pub token_size_ends : (b : ℕ) (xs : List ℕ) → joins_next b xs ≡ false → token_size (b ∷ xs) ≡ 1
 unfolding token_size
 token_size_ends b xs j = simp j
 
-token_size_more : (b : ℕ) (xs : List ℕ) → joins_next b xs ≡ true → token_size (b ∷ xs) ≡ token_size xs + 1
+pub token_size_more : (b : ℕ) (xs : List ℕ) → joins_next b xs ≡ true → token_size (b ∷ xs) ≡ token_size xs + 1
 unfolding token_size
 token_size_more b xs j = simp j
 
@@ -61,7 +61,7 @@ tokens_from_comment : (place b : ℕ) (xs : List ℕ) → eqb b 35 ≡ true → 
 unfolding tokens_from
 tokens_from_comment place b xs c = simp c
 
-tokens_from_blank : (place b : ℕ) (xs : List ℕ) → is_blank b ≡ true → tokens_from place (b ∷ xs) ≡ tokens_from (place + 1) xs
+pub tokens_from_blank : (place b : ℕ) (xs : List ℕ) → is_blank b ≡ true → tokens_from place (b ∷ xs) ≡ tokens_from (place + 1) xs
 unfolding tokens_from
 tokens_from_blank place b xs h = simp (blank_not_comment b h, h)
 
@@ -79,7 +79,7 @@ first_token_more place b m n w xs c h j t v e =
     let g : n ≡ suc m = omega arith in
     tokens_from_byte place b xs c h ∙ (ap (λ k. with_byte place b k (tokens_from (place + 1) xs)) j ∙ (ap (with_byte place b true) t ∙ rw (f, g, v) refl))
 
-first_token : (place b : ℕ) (xs : List ℕ) → eqb b 35 ≡ false → is_blank b ≡ false → tokens_from place (b ∷ xs) ≡ record { start = place; end = place + token_size (b ∷ xs); word = is_word_byte b } ∷ tokens_from (place + token_size (b ∷ xs)) (drop (token_size (b ∷ xs)) (b ∷ xs))
+pub first_token : (place b : ℕ) (xs : List ℕ) → eqb b 35 ≡ false → is_blank b ≡ false → tokens_from place (b ∷ xs) ≡ record { start = place; end = place + token_size (b ∷ xs); word = is_word_byte b } ∷ tokens_from (place + token_size (b ∷ xs)) (drop (token_size (b ∷ xs)) (b ∷ xs))
 first_token place b [] c h = first_token_ends place b _ [] c h refl (token_size_ends b [] refl)
 first_token place b (d ∷ xs) c h =
     elim (cases_Bool (joins b d)) [

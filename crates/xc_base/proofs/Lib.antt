@@ -5,6 +5,8 @@ pub mod Naming
 pub mod Operators
 pub mod Deciding
 pub mod Rows
+pub mod SpacedTokens
+pub mod CanonicalTexts
 pub mod Within
 pub mod Words
 pub mod Writing

@@ -3,10 +3,12 @@ pub mod Cutting
 pub mod Deciding
 pub mod Formats
 pub mod Judging
+pub mod Laws
 pub mod Lines
 pub mod Names
 pub mod Operators
 pub mod Shelves
 pub mod Sinks
+pub mod Spacing
 pub mod Text
 pub mod Words

@@ -3,7 +3,6 @@
 use Rattle.std.specs.Prelude.{ℕ, ◌+◌, Bool, ◌&&◌, ◌||◌, nat_lt, if◌then◌else◌, List, [], ◌∷◌, ◌++◌, drop, codes}
 use Rattle.xc_theory.specs.Codes.{digits}
 use Rattle.xc_base.specs.Names.{name_at}
-use Rattle.xc_base.specs.Words.{is_word}
 use Rattle.xc_ctl.specs.Written.{listed}
 use Rattle.xc_ctl.specs.Texts.{is_and, is_or, digit_names}
 use Rattle.xc_ctl.specs.Trees.{Tree, Const, Atom, Not, And, Or, Ex, sizes_of}
@@ -32,7 +31,3 @@ digits_from parts place code = listed (digit_names (drop place parts) (digits (s
 -- the names of an element's digits in braces
 unfoldable pub element_braces : List (List (List ℕ)) → ℕ → List (List ℕ)
 element_braces parts code = codes "{" ∷ digits_from parts 0 code ++ codes "}" ∷ []
-
--- the blank behind the token at a place
-unfoldable pub gap_after : List (List ℕ) → ℕ → List ℕ
-gap_after tokens place = if is_word (name_at tokens place) && is_word (name_at tokens (place + 1)) then 32 ∷ [] else []

@@ -14,7 +14,6 @@ mod printer;
 mod reader;
 mod resolver;
 mod rows;
-mod spacing;
 mod tree;
 mod verdict;
 mod vocabulary;

@@ -11,11 +11,10 @@ ghost use Rattle.xc_ctl.specs.Resolving.{signature, tree_of, part_at};
 ghost use Rattle.xc_ctl.specs.Printing.{is_tree_in, is_joined, only_if, digits_from, element_braces};
 
 use crate::elements::{part_at, total_from};
-use crate::spacing::spaced;
 use crate::tree::Tree;
 use crate::vocabulary::Vocabulary;
 use std::alloc::Global;
-use xc_base::{Bytes, Lexeme, List, Memory, Word, is_word_text};
+use xc_base::{Bytes, Lexeme, List, Memory, Word, is_word_text, spaced};
 
 type Tokens<'v> = List<Lexeme<'v>>;
 

@@ -5,7 +5,7 @@ use Rattle.xc_ctl.specs.FormulaReading.{written}
 use Rattle.xc_ctl.specs.Reading.{formula_in}
 use Rattle.xc_ctl.specs.Resolving.{signature, tree_of}
 use Rattle.xc_ctl.specs.Trees.{resolved}
-use Rattle.xc_ctl.proofs.Printing.{texts_count}
+use Rattle.xc_base.proofs.SpacedTokens.{texts_count}
 use Rattle.xc_ctl.proofs.Ranges.{tree_in_range}
 use Rattle.xc_ctl.proofs.Sizes.{formula_size}
 use Rattle.xc_ctl.proofs.rows.row_table.Goals as goal
