@@ -64,7 +64,7 @@ pub all_push : {X : Type 0} (p : X → Bool) (xs : List X) (x : X) → list_all 
 all_push p xs x a h = list_all-append p xs (x ∷ []) ∙ and_from (list_all p xs) (p x && true) a (and_from (p x) true h refl)
 
 -- a name more that is not among the others
-not_same : (x y : List ℕ) → bytes_eq y x ≡ false → bytes_eq x y ≡ false
+pub not_same : (x y : List ℕ) → bytes_eq y x ≡ false → bytes_eq x y ≡ false
 not_same x y h =
     false_from_ne_true (bytes_eq x y) (λ (e : bytes_eq x y ≡ true).
     both_ways (bytes_eq y x) h (subst (λ (z : List ℕ). bytes_eq z x ≡ true) (same_bytes x y e) (bytes_refl x)))
@@ -213,11 +213,11 @@ early_end [] s h e = refl
 early_end (r ∷ more) s h e = follows_early (last_of r more) s h e
 
 -- the last of statements with one more
-last_push : (r : Statement) (more : List Statement) (s : Statement) → last_of r (more ++ s ∷ []) ≡ s
+pub last_push : (r : Statement) (more : List Statement) (s : Statement) → last_of r (more ++ s ∷ []) ≡ s
 last_push r [] s = refl
 last_push r (t ∷ more) s = last_push t more s
 
-ends_push : (ss : List Statement) (s : Statement) → ends_late (ss ++ s ∷ []) ≡ is_late s
+pub ends_push : (ss : List Statement) (s : Statement) → ends_late (ss ++ s ∷ []) ≡ is_late s
 ends_push [] s = refl
 ends_push (r ∷ more) s = ap is_late (last_push r more s)
 
@@ -267,7 +267,7 @@ no_uses (Send viewpoint variable source pairs) h = refl
 no_uses (Tell viewpoint prop told) h = refl
 no_uses (Stutter viewpoint value) h = refl
 
-same_uses : (ss : List Statement) (s : Statement) → is_late s ≡ true → uses_of (ss ++ s ∷ []) ≡ uses_of ss
+pub same_uses : (ss : List Statement) (s : Statement) → is_late s ≡ true → uses_of (ss ++ s ∷ []) ≡ uses_of ss
 same_uses ss s h = uses_append ss (s ∷ []) ∙ ap (λ (more : List viewpoints.Use). uses_of ss ++ more) (no_uses s h) ∙ append-nil (uses_of ss)
 
 no_vars : (s : Statement) → is_late s ≡ true → vars_of (s ∷ []) ≡ []
@@ -279,7 +279,7 @@ no_vars (Send viewpoint variable source pairs) h = refl
 no_vars (Tell viewpoint prop told) h = refl
 no_vars (Stutter viewpoint value) h = refl
 
-same_vars : (ss : List Statement) (s : Statement) → is_late s ≡ true → vars_of (ss ++ s ∷ []) ≡ vars_of ss
+pub same_vars : (ss : List Statement) (s : Statement) → is_late s ≡ true → vars_of (ss ++ s ∷ []) ≡ vars_of ss
 same_vars ss s h = vars_append ss (s ∷ []) ∙ ap (λ (more : List Domain). vars_of ss ++ more) (no_vars s h) ∙ append-nil (vars_of ss)
 
 no_props : (s : Statement) → is_late s ≡ true → props_of (s ∷ []) ≡ []
@@ -291,7 +291,7 @@ no_props (Send viewpoint variable source pairs) h = refl
 no_props (Tell viewpoint prop told) h = refl
 no_props (Stutter viewpoint value) h = refl
 
-same_props : (ss : List Statement) (s : Statement) → is_late s ≡ true → props_of (ss ++ s ∷ []) ≡ props_of ss
+pub same_props : (ss : List Statement) (s : Statement) → is_late s ≡ true → props_of (ss ++ s ∷ []) ≡ props_of ss
 same_props ss s h = props_append ss (s ∷ []) ∙ ap (λ (more : List (List ℕ)). props_of ss ++ more) (no_props s h) ∙ append-nil (props_of ss)
 
 -- what a late statement names is known

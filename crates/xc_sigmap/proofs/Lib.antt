@@ -11,3 +11,5 @@ pub mod Sound
 pub mod Gathered
 pub mod Verdicts
 pub mod Keeping
+pub mod Printing
+pub mod Restating

@@ -10,6 +10,7 @@ mod limits;
 mod lookup;
 mod names;
 mod parts;
+mod print;
 mod reader;
 mod rows;
 mod sigmap;
