@@ -13,3 +13,5 @@ pub mod Verdicts
 pub mod Keeping
 pub mod Printing
 pub mod Restating
+pub mod Declaring
+pub mod Telling
