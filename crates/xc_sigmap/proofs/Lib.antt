@@ -15,3 +15,5 @@ pub mod Printing
 pub mod Restating
 pub mod Declaring
 pub mod Telling
+pub mod ByKind
+pub mod Again
