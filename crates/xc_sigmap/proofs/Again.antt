@@ -230,7 +230,7 @@ module _ (v : MapValue) (sound : is_sound v ≡ true) where
       (λ before l b fit new. stutter_fine v is_declared before l b fit new) b6 v.stutters b6_behind told.4
       (new_by (stuttering v) (is_stutter_in v) same_stutter v.uses v.vars v.props (λ l. refl) (stutter_again v is_declared) (λ before l b fit new. stutter_fine v is_declared before l b fit new) b6 v.stutters stutter_new) told.5
 
-  all_faultless : AreFaultless [] (statements_in v)
+  pub all_faultless : AreFaultless [] (statements_in v)
   all_faultless =
       ( head_fine
       , faultless_join b1 (map Use v.uses) _ k1

@@ -17,3 +17,4 @@ pub mod Declaring
 pub mod Telling
 pub mod ByKind
 pub mod Again
+pub mod Rereading

@@ -282,6 +282,7 @@ impl SigMap {
     /// The canonical text, or the want of memory for it. It is read again as the same map.
     pub fn print(&self, alloc: Global) -> Result<Bytes, Memory>
         ensures text { IfOk result (λ text. text ≡ canonical (map_lines (value_of self.now))) }
+        ensures again { IfOk result (λ text. IsAccepted map_format (text_rows text) (value_of self.now)) }
     {
         let mut text = List::new(alloc);
         push_name(&mut text, self.name())?;
