@@ -56,7 +56,7 @@ module _ (v : MapValue) (sound : is_sound v ≡ true) where
   declared10 : (are_declared v ≡ true) × (are_told v ≡ true)
   declared10 = and_parts (are_declared v) (are_told v) sound
 
-  told : (list_all (is_send_in v) v.sends ≡ true) × (has_two same_send v.sends ≡ false) × (list_all (is_tell_in v) v.tells ≡ true) × (has_two same_tell v.tells ≡ false) × (list_all (is_stutter_in v) v.stutters ≡ true) × (has_two same_stutter v.stutters ≡ false)
+  pub told : (list_all (is_send_in v) v.sends ≡ true) × (has_two same_send v.sends ≡ false) × (list_all (is_tell_in v) v.tells ≡ true) × (has_two same_tell v.tells ≡ false) × (list_all (is_stutter_in v) v.stutters ≡ true) × (has_two same_stutter v.stutters ≡ false)
   told =
       let sixth = and_parts _ _ declared10.1 in
       let fifth = and_parts _ _ sixth.0 in
@@ -65,7 +65,7 @@ module _ (v : MapValue) (sound : is_sound v ≡ true) where
       let second = and_parts _ _ third.0 in
       (second.0, not-true _ second.1, third.1, not-true _ fourth.1, fifth.1, not-true _ sixth.1)
 
-  record AreSound : Type 0 where
+  pub record AreSound : Type 0 where
     pub name : is_name v.name ≡ true
     pub some_use : 1 ≤ length v.uses
     pub few_uses : length v.uses ≤ use_limit
@@ -80,7 +80,7 @@ module _ (v : MapValue) (sound : is_sound v ≡ true) where
     pub declared : has_twice v.props ≡ false
     pub named_props : list_all is_prop_name v.props ≡ true
 
-  are_sound : AreSound
+  pub are_sound : AreSound
   are_sound =
       let tenth = and_parts _ _ declared10.0 in
       let ninth = and_parts _ _ tenth.0 in

@@ -18,3 +18,4 @@ pub mod Telling
 pub mod ByKind
 pub mod Again
 pub mod Rereading
+pub mod Short

@@ -283,6 +283,7 @@ impl SigMap {
     pub fn print(&self, alloc: Global) -> Result<Bytes, Memory>
         ensures text { IfOk result (λ text. text ≡ canonical (map_lines (value_of self.now))) }
         ensures again { IfOk result (λ text. IsAccepted map_format (text_rows text) (value_of self.now)) }
+        ensures sound { IfOk result (λ text. (limit : ℕ) → length text ≤ limit → text_fault limit text ≡ None) }
     {
         let mut text = List::new(alloc);
         push_name(&mut text, self.name())?;

@@ -6,7 +6,7 @@ use crate::sigmap::SigMap;
 use std::alloc::{AllocError, Global};
 use std::fmt::Write;
 use std::test::Fail;
-use xc_base::{FileFault, Part, Stop, cut_lines};
+use xc_base::{Bytes, FileFault, Part, Stop, cut_lines};
 
 // A pair is told as the value's place and the word.
 fn send_told(alloc: Global, line: &SendLine) -> Result<String, AllocError> {
@@ -87,6 +87,15 @@ fn fault_told(alloc: Global, fault: &FileFault) -> Result<String, AllocError> {
         FileFault::Missing { part: Part::Uses } => format!(in alloc; "Missing uses"),
         FileFault::Missing { part: Part::Var } => format!(in alloc; "Missing var"),
         FileFault::Missing { .. } => format!(in alloc; "Missing"),
+    }
+}
+
+// The canonical text of the map that a text says.
+fn printed(alloc: Global, text: &[u8]) -> Result<Bytes, Fail> {
+    let lines = cut_lines(alloc, text, 1_048_576)?;
+    match read(alloc, &lines) {
+        Ok(map) => Ok(map.print(alloc)?),
+        Err(_) => Ok(Bytes::new(alloc)),
     }
 }
 
@@ -266,6 +275,26 @@ fn names_have_their_lengths(rt: HostRuntime) -> Result<(), Fail> {
         let text = format!(in rt.alloc(); "map {name}\nuse {name}{more_name} {file}{more_file}\n")?;
         let given = answer(rt.alloc(), text.as_bytes())?;
         assert_eq!(rt; given.as_str(), expected);
+    }
+    Ok(())
+}
+
+#[test]
+fn maps_are_printed(rt: HostRuntime) -> Result<(), Fail> {
+    let pair = b"map pair\nuse alice alice.view\nuse bob bob.view\nvar x 0 1\nprop p\nsend alice x x\nsend bob x x\ntell alice p p\ntell bob p p\n".as_slice();
+    let house = b"map house\nuse ann ann.view\nuse ben ben.view\nuse cat cat.view\nvar door shut open\nvar lamp off on\nprop lit\nprop safe\nsend ann door door\nsend ann lamp lamp\nsend ben gate door shut=closed\nsend ben lamp lamp\nsend cat light lamp off=dark on=bright\ntell ann lit lit\ntell ann safe safe\ntell ben lit shining\ntell ben safe safe\ntell cat lit lit\ntell cat safe as T\nstutter cat T\n".as_slice();
+    let mixed = b"map still # a comment\r\nuse ann dir/up.view\nvar x 0 1\n\nstutter ann M\nsend ann y x  1 = b\n\tsend ann x x".as_slice();
+    let table: [(&[u8], &[u8]); 3] = [
+        (pair, pair),
+        (house, house),
+        (
+            mixed,
+            b"map still\nuse ann dir/up.view\nvar x 0 1\nsend ann y x 1=b\nsend ann x x\nstutter ann M\n".as_slice(),
+        ),
+    ];
+    for (text, expected) in table {
+        let given = printed(rt.alloc(), text)?;
+        assert_eq!(rt; given.as_slice(), expected);
     }
     Ok(())
 }
