@@ -231,13 +231,14 @@ module _ (v : MapValue) (sound : is_sound v ≡ true) where
       (new_by (stuttering v) (is_stutter_in v) same_stutter v.uses v.vars v.props (λ l. refl) (stutter_again v is_declared) (λ before l b fit new. stutter_fine v is_declared before l b fit new) b6 v.stutters stutter_new) told.5
 
   pub all_faultless : AreFaultless [] (statements_in v)
-  all_faultless =
-      ( head_fine
-      , faultless_join b1 (map Use v.uses) _ k1
+  all_faultless = (
+    head_fine,
+    faultless_join b1 (map Use v.uses) _ k1
         (faultless_join b2 (map Var v.vars) _ k2
         (faultless_join b3 (map Prop v.props) _ k3
         (faultless_join b4 (map (sending v) v.sends) _ k4
-        (faultless_join b5 (map (telling v) v.tells) (map (stuttering v) v.stutters) k5 k6)))) )
+        (faultless_join b5 (map (telling v) v.tells) (map (stuttering v) v.stutters) k5 k6)))),
+  )
 
   -- no part lacks
   none_lacks : (ss : List Statement) → 1 ≤ length (uses_of ss) → 1 ≤ length (vars_of ss) → missing_part ss ≡ None
@@ -259,6 +260,6 @@ module _ (v : MapValue) (sound : is_sound v ≡ true) where
         read = are_statements [] (statements_in v) 1 all_faultless;
         whole = none_lacks (statements_in v) (subst (λ (us : List viewpoints.Use). 1 ≤ length us) (sym uses) are_sound.some_use) (subst (λ (ds : List Domain). 1 ≤ length ds) (sym vars) are_sound.some_var);
         says =
-          map_says (statements_in v) refl uses vars (all_props v)
-          (all_sends v (sends_back v is_declared v.sends told.0)) (all_tells v (tells_back v is_declared v.tells told.2)) (all_stutters v (stutters_back v is_declared v.stutters told.4));
+            map_says (statements_in v) refl uses vars (all_props v)
+            (all_sends v (sends_back v is_declared v.sends told.0)) (all_tells v (tells_back v is_declared v.tells told.2)) (all_stutters v (stutters_back v is_declared v.stutters told.4));
       }

@@ -53,18 +53,23 @@ stutters_append uses (x ∷ xs) ys =
 pub uses_use : (xs : List (viewpoints.Use)) → uses_of (map Use xs) ≡ xs
 uses_use [] = refl
 uses_use (x ∷ xs) = ap (λ (ys : List (viewpoints.Use)). x ∷ ys) (uses_use xs)
+
 pub uses_var : (xs : List (Domain)) → uses_of (map Var xs) ≡ []
 uses_var [] = refl
 uses_var (x ∷ xs) = uses_var xs
+
 pub uses_prop : (xs : List (List ℕ)) → uses_of (map Prop xs) ≡ []
 uses_prop [] = refl
 uses_prop (x ∷ xs) = uses_prop xs
+
 pub uses_sending : (v : MapValue) (xs : List SendLine) → uses_of (map (sending v) xs) ≡ []
 uses_sending v [] = refl
 uses_sending v (x ∷ xs) = uses_sending v xs
+
 pub uses_telling : (v : MapValue) (xs : List tellings.Tell) → uses_of (map (telling v) xs) ≡ []
 uses_telling v [] = refl
 uses_telling v (x ∷ xs) = uses_telling v xs
+
 pub uses_stuttering : (v : MapValue) (xs : List gaps.Stutter) → uses_of (map (stuttering v) xs) ≡ []
 uses_stuttering v [] = refl
 uses_stuttering v (x ∷ xs) = uses_stuttering v xs
@@ -72,18 +77,23 @@ uses_stuttering v (x ∷ xs) = uses_stuttering v xs
 pub vars_use : (xs : List (viewpoints.Use)) → vars_of (map Use xs) ≡ []
 vars_use [] = refl
 vars_use (x ∷ xs) = vars_use xs
+
 pub vars_var : (xs : List (Domain)) → vars_of (map Var xs) ≡ xs
 vars_var [] = refl
 vars_var (x ∷ xs) = ap (λ (ys : List (Domain)). x ∷ ys) (vars_var xs)
+
 pub vars_prop : (xs : List (List ℕ)) → vars_of (map Prop xs) ≡ []
 vars_prop [] = refl
 vars_prop (x ∷ xs) = vars_prop xs
+
 pub vars_sending : (v : MapValue) (xs : List SendLine) → vars_of (map (sending v) xs) ≡ []
 vars_sending v [] = refl
 vars_sending v (x ∷ xs) = vars_sending v xs
+
 pub vars_telling : (v : MapValue) (xs : List tellings.Tell) → vars_of (map (telling v) xs) ≡ []
 vars_telling v [] = refl
 vars_telling v (x ∷ xs) = vars_telling v xs
+
 pub vars_stuttering : (v : MapValue) (xs : List gaps.Stutter) → vars_of (map (stuttering v) xs) ≡ []
 vars_stuttering v [] = refl
 vars_stuttering v (x ∷ xs) = vars_stuttering v xs
@@ -91,18 +101,23 @@ vars_stuttering v (x ∷ xs) = vars_stuttering v xs
 pub props_use : (xs : List (viewpoints.Use)) → props_of (map Use xs) ≡ []
 props_use [] = refl
 props_use (x ∷ xs) = props_use xs
+
 pub props_var : (xs : List (Domain)) → props_of (map Var xs) ≡ []
 props_var [] = refl
 props_var (x ∷ xs) = props_var xs
+
 pub props_prop : (xs : List (List ℕ)) → props_of (map Prop xs) ≡ xs
 props_prop [] = refl
 props_prop (x ∷ xs) = ap (λ (ys : List (List ℕ)). x ∷ ys) (props_prop xs)
+
 pub props_sending : (v : MapValue) (xs : List SendLine) → props_of (map (sending v) xs) ≡ []
 props_sending v [] = refl
 props_sending v (x ∷ xs) = props_sending v xs
+
 pub props_telling : (v : MapValue) (xs : List tellings.Tell) → props_of (map (telling v) xs) ≡ []
 props_telling v [] = refl
 props_telling v (x ∷ xs) = props_telling v xs
+
 pub props_stuttering : (v : MapValue) (xs : List gaps.Stutter) → props_of (map (stuttering v) xs) ≡ []
 props_stuttering v [] = refl
 props_stuttering v (x ∷ xs) = props_stuttering v xs
@@ -111,15 +126,19 @@ props_stuttering v (x ∷ xs) = props_stuttering v xs
 sends_use : (uses : List viewpoints.Use) (vars : List Domain) (xs : List (viewpoints.Use)) → sends_of uses vars (map Use xs) ≡ []
 sends_use uses vars [] = refl
 sends_use uses vars (x ∷ xs) = sends_use uses vars xs
+
 sends_var : (uses : List viewpoints.Use) (vars : List Domain) (xs : List (Domain)) → sends_of uses vars (map Var xs) ≡ []
 sends_var uses vars [] = refl
 sends_var uses vars (x ∷ xs) = sends_var uses vars xs
+
 sends_prop : (uses : List viewpoints.Use) (vars : List Domain) (xs : List (List ℕ)) → sends_of uses vars (map Prop xs) ≡ []
 sends_prop uses vars [] = refl
 sends_prop uses vars (x ∷ xs) = sends_prop uses vars xs
+
 sends_telling : (uses : List viewpoints.Use) (vars : List Domain) (v : MapValue) (xs : List tellings.Tell) → sends_of uses vars (map (telling v) xs) ≡ []
 sends_telling uses vars v [] = refl
 sends_telling uses vars v (x ∷ xs) = sends_telling uses vars v xs
+
 sends_stuttering : (uses : List viewpoints.Use) (vars : List Domain) (v : MapValue) (xs : List gaps.Stutter) → sends_of uses vars (map (stuttering v) xs) ≡ []
 sends_stuttering uses vars v [] = refl
 sends_stuttering uses vars v (x ∷ xs) = sends_stuttering uses vars v xs
@@ -127,15 +146,19 @@ sends_stuttering uses vars v (x ∷ xs) = sends_stuttering uses vars v xs
 tells_use : (uses : List viewpoints.Use) (props : List (List ℕ)) (xs : List (viewpoints.Use)) → tells_of uses props (map Use xs) ≡ []
 tells_use uses props [] = refl
 tells_use uses props (x ∷ xs) = tells_use uses props xs
+
 tells_var : (uses : List viewpoints.Use) (props : List (List ℕ)) (xs : List (Domain)) → tells_of uses props (map Var xs) ≡ []
 tells_var uses props [] = refl
 tells_var uses props (x ∷ xs) = tells_var uses props xs
+
 tells_prop : (uses : List viewpoints.Use) (props : List (List ℕ)) (xs : List (List ℕ)) → tells_of uses props (map Prop xs) ≡ []
 tells_prop uses props [] = refl
 tells_prop uses props (x ∷ xs) = tells_prop uses props xs
+
 tells_sending : (uses : List viewpoints.Use) (props : List (List ℕ)) (v : MapValue) (xs : List SendLine) → tells_of uses props (map (sending v) xs) ≡ []
 tells_sending uses props v [] = refl
 tells_sending uses props v (x ∷ xs) = tells_sending uses props v xs
+
 tells_stuttering : (uses : List viewpoints.Use) (props : List (List ℕ)) (v : MapValue) (xs : List gaps.Stutter) → tells_of uses props (map (stuttering v) xs) ≡ []
 tells_stuttering uses props v [] = refl
 tells_stuttering uses props v (x ∷ xs) = tells_stuttering uses props v xs
@@ -143,15 +166,19 @@ tells_stuttering uses props v (x ∷ xs) = tells_stuttering uses props v xs
 stutters_use : (uses : List viewpoints.Use) (xs : List (viewpoints.Use)) → stutters_of uses (map Use xs) ≡ []
 stutters_use uses [] = refl
 stutters_use uses (x ∷ xs) = stutters_use uses xs
+
 stutters_var : (uses : List viewpoints.Use) (xs : List (Domain)) → stutters_of uses (map Var xs) ≡ []
 stutters_var uses [] = refl
 stutters_var uses (x ∷ xs) = stutters_var uses xs
+
 stutters_prop : (uses : List viewpoints.Use) (xs : List (List ℕ)) → stutters_of uses (map Prop xs) ≡ []
 stutters_prop uses [] = refl
 stutters_prop uses (x ∷ xs) = stutters_prop uses xs
+
 stutters_sending : (uses : List viewpoints.Use) (v : MapValue) (xs : List SendLine) → stutters_of uses (map (sending v) xs) ≡ []
 stutters_sending uses v [] = refl
 stutters_sending uses v (x ∷ xs) = stutters_sending uses v xs
+
 stutters_telling : (uses : List viewpoints.Use) (v : MapValue) (xs : List tellings.Tell) → stutters_of uses (map (telling v) xs) ≡ []
 stutters_telling uses v [] = refl
 stutters_telling uses v (x ∷ xs) = stutters_telling uses v xs

@@ -88,9 +88,10 @@ pairs_sound (value ∷ mark ∷ word ∷ more) pairs h =
     let behind = pairs_sound more rest.0 rest.1.0 in
     let third = and_parts (bytes_eq mark (codes "=") && is_name value) (is_name word) parts.0 in
     let second = and_parts (bytes_eq mark (codes "=")) (is_name value) third.0 in
-    subst (λ (ps : List Pair). (value ∷ mark ∷ word ∷ more ≡ pair_tokens ps) × (list_all is_named_pair ps ≡ true)) rest.1.1
-    ( ap (λ (m : List ℕ). value ∷ m ∷ word ∷ more) (same_bytes mark (codes "=") second.0) ∙ ap (λ (ts : List (List ℕ)). value ∷ codes "=" ∷ word ∷ ts) behind.0
-    , and_from (is_named_pair p) (list_all is_named_pair rest.0) (and_from (is_name value) (is_name word) second.1 third.1) behind.1)
+    subst (λ (ps : List Pair). (value ∷ mark ∷ word ∷ more ≡ pair_tokens ps) × (list_all is_named_pair ps ≡ true)) rest.1.1 (
+      ap (λ (m : List ℕ). value ∷ m ∷ word ∷ more) (same_bytes mark (codes "=") second.0) ∙ ap (λ (ts : List (List ℕ)). value ∷ codes "=" ∷ word ∷ ts) behind.0,
+      and_from (is_named_pair p) (list_all is_named_pair rest.0) (and_from (is_name value) (is_name word) second.1 third.1) behind.1,
+    )
 
 -- what a viewpoint sends
 send_sound : (tokens : List (List ℕ)) (s : Statement) → send_line tokens ≡ Some s → IsStated (codes "send" ∷ tokens) s

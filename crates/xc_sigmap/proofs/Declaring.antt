@@ -40,13 +40,14 @@ uses_fine before [] d n t f = tt
 uses_fine before (u ∷ us) d n t f =
     let parts = and_parts (is_named_use u) (list_all is_named_use us) n in
     let new : is_among (use_names (uses_of before)) u.name ≡ false =
-        not_before (use_names (uses_of before)) u.name (use_names us) (sym (ap has_twice (map-append (λ (w : viewpoints.Use). w.name) (uses_of before) (u ∷ us))) ∙ t) in
+    not_before (use_names (uses_of before)) u.name (use_names us) (sym (ap has_twice (map-append (λ (w : viewpoints.Use). w.name) (uses_of before) (u ∷ us))) ∙ t) in
     let few : length (uses_of before) < use_limit = omega (arith, length-append (uses_of before) (u ∷ us)) in
-    let same : uses_of (before ++ Use u ∷ []) ++ us ≡ uses_of before ++ u ∷ us = ap (λ (ws : List viewpoints.Use). ws ++ us) (uses_append before (Use u ∷ [])) ∙ append_assoc (uses_of before) (u ∷ []) us in
-    ( record { ready = refl; due = record { spelled = refl; named = parts.0; placed = d u }; first = new; known = refl; few = no_excess use_limit (length (uses_of before)) _ few }
-    , uses_fine (before ++ Use u ∷ []) us (λ w. due_after before (Use u) (Use w)) parts.1
-      (ap (λ (ws : List viewpoints.Use). has_twice (use_names ws)) same ∙ t)
-      (subst (λ (ws : List viewpoints.Use). length ws ≤ use_limit) (sym same) f) )
+    let same : uses_of (before ++ Use u ∷ []) ++ us ≡ uses_of before ++ u ∷ us = ap (λ (ws : List viewpoints.Use). ws ++ us) (uses_append before (Use u ∷ [])) ∙ append_assoc (uses_of before) (u ∷ []) us in (
+      record { ready = refl; due = record { spelled = refl; named = parts.0; placed = d u }; first = new; known = refl; few = no_excess use_limit (length (uses_of before)) _ few },
+      uses_fine (before ++ Use u ∷ []) us (λ w. due_after before (Use u) (Use w)) parts.1
+          (ap (λ (ws : List viewpoints.Use). has_twice (use_names ws)) same ∙ t)
+          (subst (λ (ws : List viewpoints.Use). length ws ≤ use_limit) (sym same) f),
+    )
 
 -- propositions
 pub props_fine : (before : List Statement) (ps : List (List ℕ)) → ((p : List ℕ) → is_due before (Prop p) ≡ true) → list_all is_prop_name ps ≡ true
@@ -56,11 +57,12 @@ props_fine before (p ∷ ps) d n t f =
     let parts = and_parts (is_prop_name p) (list_all is_prop_name ps) n in
     let new : is_among (props_of before) p ≡ false = not_before (props_of before) p ps t in
     let few : length (props_of before) < prop_limit = omega (arith, length-append (props_of before) (p ∷ ps)) in
-    let same : props_of (before ++ Prop p ∷ []) ++ ps ≡ props_of before ++ p ∷ ps = ap (λ (ws : List (List ℕ)). ws ++ ps) (props_append before (Prop p ∷ [])) ∙ append_assoc (props_of before) (p ∷ []) ps in
-    ( record { ready = refl; due = record { spelled = refl; named = parts.0; placed = d p }; first = new; known = refl; few = no_excess prop_limit (length (props_of before)) _ few }
-    , props_fine (before ++ Prop p ∷ []) ps (λ w. due_after before (Prop p) (Prop w)) parts.1
-      (ap has_twice same ∙ t)
-      (subst (λ (ws : List (List ℕ)). length ws ≤ prop_limit) (sym same) f) )
+    let same : props_of (before ++ Prop p ∷ []) ++ ps ≡ props_of before ++ p ∷ ps = ap (λ (ws : List (List ℕ)). ws ++ ps) (props_append before (Prop p ∷ [])) ∙ append_assoc (props_of before) (p ∷ []) ps in (
+      record { ready = refl; due = record { spelled = refl; named = parts.0; placed = d p }; first = new; known = refl; few = no_excess prop_limit (length (props_of before)) _ few },
+      props_fine (before ++ Prop p ∷ []) ps (λ w. due_after before (Prop p) (Prop w)) parts.1
+          (ap has_twice same ∙ t)
+          (subst (λ (ws : List (List ℕ)). length ws ≤ prop_limit) (sym same) f),
+    )
 
 -- how many states there are over some variables and others behind them
 total_append : (xs ys : List ℕ) → total (xs ++ ys) ≡ total xs * total ys
@@ -89,15 +91,16 @@ vars_fine before (v ∷ vs) d n t k f =
     let size = and_parts (nat_le 2 (length v.values) && nat_le (length v.values) 16) (not (has_twice v.values)) domains.0 in
     let some : nat_lt 0 (length v.values) ≡ true = lt-ltb 0 (length v.values) (omega (arith, leb-true 2 (length v.values) (and_parts _ _ size.0).0)) in
     let new : is_among (names_of (vars_of before)) v.name ≡ false =
-        not_before (names_of (vars_of before)) v.name (names_of vs) (sym (ap has_twice (map-append (λ (w : Domain). w.name) (vars_of before) (v ∷ vs))) ∙ t) in
-    let same : vars_of (before ++ Var v ∷ []) ++ vs ≡ vars_of before ++ v ∷ vs = ap (λ (ws : List Domain). ws ++ vs) (vars_append before (Var v ∷ [])) ∙ append_assoc (vars_of before) (v ∷ []) vs in
-    ( record {
+    not_before (names_of (vars_of before)) v.name (names_of vs) (sym (ap has_twice (map-append (λ (w : Domain). w.name) (vars_of before) (v ∷ vs))) ∙ t) in
+    let same : vars_of (before ++ Var v ∷ []) ++ vs ≡ vars_of before ++ v ∷ vs = ap (λ (ws : List Domain). ws ++ vs) (vars_append before (Var v ∷ [])) ∙ append_assoc (vars_of before) (v ∷ []) vs in (
+      record {
         ready = refl;
         due = record { spelled = refl; named = and_from _ _ named.0 (and_from _ _ some named.1); placed = d v };
         first = or_from _ _ new (not-true (has_twice v.values) size.1);
         known = refl;
         few = var_fits (vars_of before) v vs domains.0 domains.1 f;
-      }
-    , vars_fine (before ++ Var v ∷ []) vs (λ w. due_after before (Var v) (Var w)) parts.1
-      (ap (λ (ws : List Domain). has_twice (names_of ws)) same ∙ t) domains.1
-      (subst (λ (ws : List Domain). total (sizes_of ws) ≤ state_limit) (sym same) f) )
+      },
+      vars_fine (before ++ Var v ∷ []) vs (λ w. due_after before (Var v) (Var w)) parts.1
+          (ap (λ (ws : List Domain). has_twice (names_of ws)) same ∙ t) domains.1
+          (subst (λ (ws : List Domain). total (sizes_of ws) ≤ state_limit) (sym same) f),
+    )

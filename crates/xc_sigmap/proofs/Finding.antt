@@ -86,8 +86,8 @@ pub carried_step : (pairs : List Pair) (i : ℕ) (x : Pair) (b w : Bool) → i <
 carried_step pairs i x b w within e t h =
     let behind : take (length pairs - (i + 1)) (drop (i + 1) pairs) ≡ drop (i + 1) pairs = take_all (length pairs - (i + 1)) (drop (i + 1) pairs) (omega (arith, length-drop (i + 1) pairs)) in
     let own : b ≡ list_any (λ (p : Pair). bytes_eq (get_or pairs i x).from p.from) (drop (i + 1) pairs) =
-        t ∙ ap (λ (y : Pair). list_any (λ (p : Pair). bytes_eq y.from p.from) (take (length pairs - (i + 1)) (drop (i + 1) pairs))) e
-        ∙ ap (list_any (λ (p : Pair). bytes_eq (get_or pairs i x).from p.from)) behind in
+    t ∙ ap (λ (y : Pair). list_any (λ (p : Pair). bytes_eq y.from p.from) (take (length pairs - (i + 1)) (drop (i + 1) pairs))) e
+    ∙ ap (list_any (λ (p : Pair). bytes_eq (get_or pairs i x).from p.from)) behind in
     ap (λ (c : Bool). c || has_twice (carried_names (drop (i + 1) pairs))) own ∙ sym (carried_from pairs i x within) ∙ h
 
 -- a known value of a pair

@@ -105,38 +105,38 @@ module _ {X : Type 0} (say : X → Statement) (fit : X → Bool) (same : X → X
     (again : (x y : X) → fit x ≡ true → fit y ≡ true → says_again (say x) (say y) ≡ same x y)
     (fine : (before : List Statement) (x : X) → IsBehind uses vars props before → fit x ≡ true → list_any (says_again (say x)) before ≡ false → IsFaultless map_format before (spelling (say x)) (say x))
   where
-  -- each of them is new after the others
-  abbrev pub AreNew : List Statement → List X → Type 0
-  AreNew before xs = list_all (λ x. not (list_any (says_again (say x)) before)) xs ≡ true
+    -- each of them is new after the others
+    abbrev pub AreNew : List Statement → List X → Type 0
+    AreNew before xs = list_all (λ x. not (list_any (says_again (say x)) before)) xs ≡ true
 
-  new_push : (before : List Statement) (x : X) (xs : List X) → fit x ≡ true → list_all fit xs ≡ true → AreNew before xs → list_any (λ y. same y x) xs ≡ false → AreNew (before ++ say x ∷ []) xs
-  new_push before x [] f g h k = refl
-  new_push before x (y ∷ xs) f g h k =
-      let fits = and_parts (fit y) (list_all fit xs) g in
-      let news = and_parts (not (list_any (says_again (say y)) before)) (list_all (λ z. not (list_any (says_again (say z)) before)) xs) h in
-      let others = or_parts (same y x) (list_any (λ z. same z x) xs) k in
-      and_from (not (list_any (says_again (say y)) (before ++ say x ∷ []))) (list_all (λ z. not (list_any (says_again (say z)) (before ++ say x ∷ []))) xs)
-      (not_from_false _
-      (list_any-append (says_again (say y)) before (say x ∷ [])
-      ∙ or_from (list_any (says_again (say y)) before) (says_again (say y) (say x) || false) (not-true _ news.0)
-      (or_from (says_again (say y) (say x)) false (again y x fits.0 f ∙ others.0) refl)))
-      (new_push before x xs f fits.1 news.1 others.1)
+    new_push : (before : List Statement) (x : X) (xs : List X) → fit x ≡ true → list_all fit xs ≡ true → AreNew before xs → list_any (λ y. same y x) xs ≡ false → AreNew (before ++ say x ∷ []) xs
+    new_push before x [] f g h k = refl
+    new_push before x (y ∷ xs) f g h k =
+        let fits = and_parts (fit y) (list_all fit xs) g in
+        let news = and_parts (not (list_any (says_again (say y)) before)) (list_all (λ z. not (list_any (says_again (say z)) before)) xs) h in
+        let others = or_parts (same y x) (list_any (λ z. same z x) xs) k in
+        and_from (not (list_any (says_again (say y)) (before ++ say x ∷ []))) (list_all (λ z. not (list_any (says_again (say z)) (before ++ say x ∷ []))) xs)
+        (not_from_false _
+        (list_any-append (says_again (say y)) before (say x ∷ [])
+        ∙ or_from (list_any (says_again (say y)) before) (says_again (say y) (say x) || false) (not-true _ news.0)
+        (or_from (says_again (say y) (say x)) false (again y x fits.0 f ∙ others.0) refl)))
+        (new_push before x xs f fits.1 news.1 others.1)
 
-  pub late_faultless : (before : List Statement) (xs : List X) → IsBehind uses vars props before → list_all fit xs ≡ true → AreNew before xs → has_two same xs ≡ false → AreFaultless before (map say xs)
-  late_faultless before [] b f h t = tt
-  late_faultless before (x ∷ xs) b f h t =
-      let fits = and_parts (fit x) (list_all fit xs) f in
-      let news = and_parts (not (list_any (says_again (say x)) before)) (list_all (λ z. not (list_any (says_again (say z)) before)) xs) h in
-      let rest = or_parts (list_any (λ y. same y x) xs) (has_two same xs) t in
-      (fine before x b fits.0 (not-true _ news.0), late_faultless (before ++ say x ∷ []) xs (behind_late uses vars props before (say x) (late x) b) fits.1 (new_push before x xs fits.0 fits.1 news.1 rest.0) rest.1)
+    pub late_faultless : (before : List Statement) (xs : List X) → IsBehind uses vars props before → list_all fit xs ≡ true → AreNew before xs → has_two same xs ≡ false → AreFaultless before (map say xs)
+    late_faultless before [] b f h t = tt
+    late_faultless before (x ∷ xs) b f h t =
+        let fits = and_parts (fit x) (list_all fit xs) f in
+        let news = and_parts (not (list_any (says_again (say x)) before)) (list_all (λ z. not (list_any (says_again (say z)) before)) xs) h in
+        let rest = or_parts (list_any (λ y. same y x) xs) (has_two same xs) t in
+        (fine before x b fits.0 (not-true _ news.0), late_faultless (before ++ say x ∷ []) xs (behind_late uses vars props before (say x) (late x) b) fits.1 (new_push before x xs fits.0 fits.1 news.1 rest.0) rest.1)
 
-  pub behind_all : (before : List Statement) (xs : List X) → IsBehind uses vars props before → IsBehind uses vars props (before ++ map say xs)
-  behind_all before [] b = subst (IsBehind uses vars props) (sym (append-nil before)) b
-  behind_all before (x ∷ xs) b = subst (IsBehind uses vars props) (append_assoc before (say x ∷ []) (map say xs)) (behind_all (before ++ say x ∷ []) xs (behind_late uses vars props before (say x) (late x) b))
+    pub behind_all : (before : List Statement) (xs : List X) → IsBehind uses vars props before → IsBehind uses vars props (before ++ map say xs)
+    behind_all before [] b = subst (IsBehind uses vars props) (sym (append-nil before)) b
+    behind_all before (x ∷ xs) b = subst (IsBehind uses vars props) (append_assoc before (say x ∷ []) (map say xs)) (behind_all (before ++ say x ∷ []) xs (behind_late uses vars props before (say x) (late x) b))
 
-  pub new_by : (before : List Statement) (xs : List X) → ((x : X) → list_any (says_again (say x)) before ≡ false) → AreNew before xs
-  new_by before [] h = refl
-  new_by before (x ∷ xs) h = and_from _ (list_all (λ z. not (list_any (says_again (say z)) before)) xs) (not_from_false _ (h x)) (new_by before xs h)
+    pub new_by : (before : List Statement) (xs : List X) → ((x : X) → list_any (says_again (say x)) before ≡ false) → AreNew before xs
+    new_by before [] h = refl
+    new_by before (x ∷ xs) h = and_from _ (list_all (λ z. not (list_any (says_again (say z)) before)) xs) (not_from_false _ (h x)) (new_by before xs h)
 
 -- statements of another kind do not say it
 pub other_kind : {X : Type 0} (s : Statement) (say : X → Statement) (xs : List X) → ((x : X) → says_again s (say x) ≡ false) → list_any (says_again s) (map say xs) ≡ false

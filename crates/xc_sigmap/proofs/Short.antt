@@ -130,9 +130,10 @@ small_is_short (Stutter viewpoint value) h k =
 pairs_differ : (c : Carry) (cs : List Carry) → list_any (λ (d : Carry). same_value d c) cs ≡ false → AllByRecursion (λ y. eqb c.value y ≡ false) (map (λ (d : Carry). d.value) cs)
 pairs_differ c [] h = tt
 pairs_differ c (d ∷ cs) h =
-    let parts = or_parts (same_value d c) (list_any (λ (d : Carry). same_value d c) cs) h in
-    ( ne_eqb c.value d.value (λ (same : c.value ≡ d.value). let equal : (d.value == c.value) ≡ true = eq-eqb d.value c.value (sym same) in let never : false ≡ true = sym parts.0 ∙ equal in cc)
-    , pairs_differ c cs parts.1 )
+    let parts = or_parts (same_value d c) (list_any (λ (d : Carry). same_value d c) cs) h in (
+      ne_eqb c.value d.value (λ (same : c.value ≡ d.value). let equal : (d.value == c.value) ≡ true = eq-eqb d.value c.value (sym same) in let never : false ≡ true = sym parts.0 ∙ equal in cc),
+      pairs_differ c cs parts.1,
+    )
 
 pairs_distinct : (cs : List Carry) → has_two same_value cs ≡ false → IsDistinct eqb (map (λ (d : Carry). d.value) cs)
 unfolding IsDistinct

@@ -208,8 +208,8 @@ module _ (v : MapValue) (h : IsDeclared v) where
     pub send_back : line_of_parts (place_of (use_names v.uses) (use_at v l.viewpoint)) l.variable (place_of (names_of v.vars) (name_at (names_of v.vars) l.from)) (map (carry (values_named v.vars (name_at (names_of v.vars) l.from))) (map (paired (values_at v.vars l.from)) l.pairs)) ≡ l
     send_back =
         let carried : map (carry (values_named v.vars (name_at (names_of v.vars) l.from))) (map (paired (values_at v.vars l.from)) l.pairs) ≡ l.pairs =
-            ap (λ (values : List (List ℕ)). map (carry values) (map (paired (values_at v.vars l.from)) l.pairs)) source_values
-            ∙ pairs_back (values_at v.vars l.from) l.pairs (values_differ v.vars l.from h.domains (ltb-true l.from (length v.vars) send_from)) send_carried in
+        ap (λ (values : List (List ℕ)). map (carry values) (map (paired (values_at v.vars l.from)) l.pairs)) source_values
+        ∙ pairs_back (values_at v.vars l.from) l.pairs (values_differ v.vars l.from h.domains (ltb-true l.from (length v.vars) send_from)) send_carried in
         send_parts (place_of (use_names v.uses) (use_at v l.viewpoint)) (place_of (names_of v.vars) (name_at (names_of v.vars) l.from)) (map (carry (values_named v.vars (name_at (names_of v.vars) l.from))) (map (paired (values_at v.vars l.from)) l.pairs)) l (use_back l.viewpoint send_use) source_back carried
 
   pub send_again : (l m : SendLine) → is_send_in v l ≡ true → is_send_in v m ≡ true → says_again (sending v l) (sending v m) ≡ same_send l m

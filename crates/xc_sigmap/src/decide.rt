@@ -190,15 +190,15 @@ fn tell_line(alloc: Global, tokens: &[Lexeme]) -> Result<Option<Statement>, Memo
     ensures { IfOk result (λ s. s ≡ tell_line (texts tokens.now)) }
 {
     match tokens {
-        [viewpoint, prop, tokens @ ..]
-            if is_name_text(viewpoint.text) && is_name_text(prop.text) => {
-            let Some(told) = told(alloc, tokens)? else {
-                return Ok(None);
-            };
-            let viewpoint = Word::of(alloc, viewpoint.text)?;
-            let prop = Word::of(alloc, prop.text)?;
-            Ok(Some(Statement::Tell(viewpoint, prop, told)))
-        }
+        [viewpoint, prop, tokens @ ..] if is_name_text(viewpoint.text) && is_name_text(prop.text) =>
+            {
+                let Some(told) = told(alloc, tokens)? else {
+                    return Ok(None);
+                };
+                let viewpoint = Word::of(alloc, viewpoint.text)?;
+                let prop = Word::of(alloc, prop.text)?;
+                Ok(Some(Statement::Tell(viewpoint, prop, told)))
+            }
         _ => Ok(None),
     }
 }

@@ -119,7 +119,6 @@ fn push_send(
     Ok(())
 }
 
-
 #[tactic(auto, using(crate::proofs::Gathering::sends_from, crate::proofs::Gathering::known_at))]
 fn send_lines(
     alloc: Global,
@@ -169,7 +168,6 @@ fn push_tell(
     Ok(())
 }
 
-
 #[tactic(auto, using(crate::proofs::Gathering::tells_from, crate::proofs::Gathering::known_at))]
 fn tells(alloc: Global, names: &Names, statements: &[Statement]) -> Result<List<Tell>, Memory>
     requires few { AreFew names.now }
@@ -201,13 +199,8 @@ fn push_stutter(
     Ok(())
 }
 
-
 #[tactic(auto, using(crate::proofs::Gathering::stutters_from, crate::proofs::Gathering::known_at))]
-fn stutters(
-    alloc: Global,
-    names: &Names,
-    statements: &[Statement],
-) -> Result<List<Stutter>, Memory>
+fn stutters(alloc: Global, names: &Names, statements: &[Statement]) -> Result<List<Stutter>, Memory>
     requires few { AreFew names.now }
     requires known { list_all (is_known names.now) statements.now ≡ true }
     ensures { IfOk result (λ stutters. stutters ≡ stutters_of names.now.uses statements.now) }

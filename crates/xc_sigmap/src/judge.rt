@@ -98,7 +98,9 @@ fn is_repeated(draft: &Draft, s: &Statement) -> bool
 fn are_values(values: &[Word], pairs: &[Pair]) -> bool
     ensures { result ≡ list_all (λ p. is_among values.now p.from) pairs.now }
 {
-    pairs.iter().all(|pair| is_among(values, pair.from.as_str().as_bytes()))
+    pairs
+        .iter()
+        .all(|pair| is_among(values, pair.from.as_str().as_bytes()))
 }
 
 /// Whether there is a variable of the name, with all values that the pairs carry.

@@ -8,7 +8,7 @@ ghost use Rattle.xc_sigmap.specs.MapFiles.{use_names};
 
 use crate::parts::Use;
 use xc_base::Word;
-use xc_expr::{Domain};
+use xc_expr::Domain;
 
 fn is_use_of(declared: &Use, name: &Word) -> bool
     ensures { result ≡ bytes_eq name.now declared.now.name }

@@ -27,12 +27,7 @@ fn decide(alloc: Global, draft: &Draft, tokens: &[Lexeme]) -> Result<Option<Stat
 
 /// The statement of a row after those of a draft, or the row's fault.
 #[tactic(auto, unfolding(xc_base::specs::Deciding::line_of))]
-fn read_row(
-    alloc: Global,
-    draft: &Draft,
-    number: u32,
-    tokens: &[Lexeme],
-) -> Result<Statement, Stop>
+fn read_row(alloc: Global, draft: &Draft, number: u32, tokens: &[Lexeme]) -> Result<Statement, Stop>
     ensures { Gives result
         (line_of map_format decide draft.now.statements (record { number = number; tokens = texts tokens.now })) }
 {

@@ -154,12 +154,18 @@ fn files_have_their_faults(rt: HostRuntime) -> Result<(), Fail> {
         (b"map a\nuse v f\nprop p\n".as_slice(), "NoStatement 3"),
         (b"map a\nuse v f\nstutter v T\n".as_slice(), "NoStatement 3"),
         (b"map a\nuse v f\nvar x\n".as_slice(), "NoStatement 3"),
-        (b"map a\nuse v f\nvar true 0 1\n".as_slice(), "NoStatement 3"),
+        (
+            b"map a\nuse v f\nvar true 0 1\n".as_slice(),
+            "NoStatement 3",
+        ),
         (b"map a\nuse v f\nvar x 0 any\n".as_slice(), "NoStatement 3"),
         // what is said again
         (b"map a\nuse v f\nuse v g\n".as_slice(), "Repeated 3"),
         (b"map a\nuse v f\nvar x 0 0\n".as_slice(), "Repeated 3"),
-        (b"map a\nuse v f\nvar x 0 1\nvar x a b\n".as_slice(), "Repeated 4"),
+        (
+            b"map a\nuse v f\nvar x 0 1\nvar x a b\n".as_slice(),
+            "Repeated 4",
+        ),
         // limits
         (b"map a\nuse v f\nvar x 0\n".as_slice(), "Count 3 Values 1"),
         (
@@ -213,7 +219,10 @@ fn lines_have_their_faults(rt: HostRuntime) -> Result<(), Fail> {
         ("tell w p q", "Unknown 5"),
         ("tell v q q", "Unknown 5"),
         ("stutter w T", "Unknown 5"),
-        ("send v x x\ntell v p q\nstutter v T\nstutter w T", "Unknown 8"),
+        (
+            "send v x x\ntell v p q\nstutter v T\nstutter w T",
+            "Unknown 8",
+        ),
     ];
     for (tail, expected) in table {
         let text = format!(in rt.alloc(); "map a\nuse v f\nvar x 0 1\nprop p\n{tail}\n")?;
@@ -281,9 +290,12 @@ fn names_have_their_lengths(rt: HostRuntime) -> Result<(), Fail> {
 
 #[test]
 fn maps_are_printed(rt: HostRuntime) -> Result<(), Fail> {
-    let pair = b"map pair\nuse alice alice.view\nuse bob bob.view\nvar x 0 1\nprop p\nsend alice x x\nsend bob x x\ntell alice p p\ntell bob p p\n".as_slice();
-    let house = b"map house\nuse ann ann.view\nuse ben ben.view\nuse cat cat.view\nvar door shut open\nvar lamp off on\nprop lit\nprop safe\nsend ann door door\nsend ann lamp lamp\nsend ben gate door shut=closed\nsend ben lamp lamp\nsend cat light lamp off=dark on=bright\ntell ann lit lit\ntell ann safe safe\ntell ben lit shining\ntell ben safe safe\ntell cat lit lit\ntell cat safe as T\nstutter cat T\n".as_slice();
-    let mixed = b"map still # a comment\r\nuse ann dir/up.view\nvar x 0 1\n\nstutter ann M\nsend ann y x  1 = b\n\tsend ann x x".as_slice();
+    let pair =
+        b"map pair\nuse alice alice.view\nuse bob bob.view\nvar x 0 1\nprop p\nsend alice x x\nsend bob x x\ntell alice p p\ntell bob p p\n".as_slice();
+    let house =
+        b"map house\nuse ann ann.view\nuse ben ben.view\nuse cat cat.view\nvar door shut open\nvar lamp off on\nprop lit\nprop safe\nsend ann door door\nsend ann lamp lamp\nsend ben gate door shut=closed\nsend ben lamp lamp\nsend cat light lamp off=dark on=bright\ntell ann lit lit\ntell ann safe safe\ntell ben lit shining\ntell ben safe safe\ntell cat lit lit\ntell cat safe as T\nstutter cat T\n".as_slice();
+    let mixed =
+        b"map still # a comment\r\nuse ann dir/up.view\nvar x 0 1\n\nstutter ann M\nsend ann y x  1 = b\n\tsend ann x x".as_slice();
     let table: [(&[u8], &[u8]); 3] = [
         (pair, pair),
         (house, house),
