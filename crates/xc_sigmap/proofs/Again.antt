@@ -1,5 +1,5 @@
 -- The canonical text of a map is read again as the map.
-use Rattle.std.proofs.Common.{◌≡◌, ℕ, ◌+◌, ◌<◌, ◌≤◌, Bool, true, false, ◌&&◌, ◌||◌, not, nat_lt, nat_le, if◌then◌else◌, List, [], ◌∷◌, ◌++◌, map, length, None, refl, sym, ◌∙◌, ap, subst, append_assoc, arith}
+use Rattle.std.proofs.Common.{◌≡◌, ℕ, ◌≤◌, true, false, List, [], ◌∷◌, ◌++◌, map, length, None, refl, sym, ◌∙◌, ap, subst, arith}
 use Rattle.std.specs.List.{list_any, list_all}
 use Rattle.std.proofs.lemmas.Bool.{and_parts, and_from, or_from, not-true, leb-true, lt-ltb}
 use Rattle.std.proofs.lemmas.List.{append-nil}
@@ -9,15 +9,14 @@ use Rattle.xc_base.specs.Canonical.{numbered}
 use Rattle.xc_base.specs.Formats.{IsAccepted, IsFaultless}
 use Rattle.xc_base.specs.Names.{has_twice}
 use Rattle.xc_base.specs.Words.{is_name}
-use Rattle.xc_expr.specs.Variables.{names_of, sizes_of, is_domain, are_fit, state_limit}
+use Rattle.xc_expr.specs.Variables.{names_of, sizes_of, is_domain, state_limit}
 use Rattle.xc_expr.specs.declared.domain.Domain.{Domain}
 use Rattle.xc_sigmap.specs.declared.parts.Use as viewpoints
-use Rattle.xc_sigmap.specs.declared.parts.SendLine.{SendLine}
 use Rattle.xc_sigmap.specs.declared.parts.Tell as tellings
 use Rattle.xc_sigmap.specs.declared.parts.Stutter as gaps
 use Rattle.xc_sigmap.specs.declared.statement.Statement.{Statement}
 use Rattle.xc_sigmap.specs.declared.statement.Statement.TheVariants.{Map, Use, Var, Prop, Send, Tell, Stutter}
-use Rattle.xc_sigmap.specs.MapFiles.{MapValue, spelling, is_prop_name, is_late, may_follow, is_due, uses_of, vars_of, props_of, use_names, sends_of, tells_of, stutters_of, says_again, use_limit, prop_limit, missing_part, first_name, map_of, map_format}
+use Rattle.xc_sigmap.specs.MapFiles.{MapValue, spelling, is_prop_name, is_late, may_follow, uses_of, vars_of, props_of, use_names, sends_of, tells_of, stutters_of, says_again, use_limit, prop_limit, missing_part, first_name, map_of, map_format}
 use Rattle.xc_sigmap.specs.Sound.{has_two, is_named_use, is_named_var, is_send_in, is_tell_in, is_stutter_in, same_send, same_tell, same_stutter, are_declared, are_told, is_sound}
 use Rattle.xc_sigmap.specs.Printing.{sending, telling, stuttering, statements_in, map_lines}
 use Rattle.xc_sigmap.proofs.Fair.{uses_append, vars_append, props_append}

@@ -1,5 +1,5 @@
 -- The statements of a map, kind by kind.
-use Rattle.std.proofs.Common.{◌≡◌, ℕ, ◌+◌, ◌<◌, ◌≤◌, Bool, true, false, ◌||◌, List, [], ◌∷◌, ◌++◌, map, length, refl, sym, ◌∙◌, ap, subst, append_assoc, arith}
+use Rattle.std.proofs.Common.{◌≡◌, ℕ, ◌<◌, Bool, true, false, List, [], ◌∷◌, ◌++◌, map, length, refl, sym, ◌∙◌, ap, append_assoc, arith}
 use Rattle.std.specs.List.{list_any}
 use Rattle.std.proofs.lemmas.List.{append-nil}
 use Rattle.xc_expr.specs.declared.domain.Domain.{Domain}
@@ -8,8 +8,8 @@ use Rattle.xc_sigmap.specs.declared.parts.SendLine.{SendLine}
 use Rattle.xc_sigmap.specs.declared.parts.Tell as tellings
 use Rattle.xc_sigmap.specs.declared.parts.Stutter as gaps
 use Rattle.xc_sigmap.specs.declared.statement.Statement.{Statement}
-use Rattle.xc_sigmap.specs.declared.statement.Statement.TheVariants.{Map, Use, Var, Prop, Send, Tell, Stutter}
-use Rattle.xc_sigmap.specs.MapFiles.{MapValue, is_late, may_follow, is_due, uses_of, vars_of, props_of, sends_of, tells_of, stutters_of}
+use Rattle.xc_sigmap.specs.declared.statement.Statement.TheVariants.{Map, Use, Var, Prop}
+use Rattle.xc_sigmap.specs.MapFiles.{MapValue, may_follow, is_due, uses_of, vars_of, props_of, sends_of, tells_of, stutters_of}
 use Rattle.xc_sigmap.specs.Printing.{sending, telling, stuttering, statements_in}
 use Rattle.xc_sigmap.proofs.Gathering.{sends_cons, tells_cons, stutters_cons}
 use Rattle.xc_sigmap.proofs.Fair.{uses_append, vars_append, props_append}

@@ -1,9 +1,9 @@
 -- The deciding function gives the statement that is due, where one is.
-use Rattle.std.proofs.Common.{◌≡◌, ℕ, suc, ◌+◌, ◌<◌, Bool, true, false, ◌&&◌, if◌then◌else◌, List, [], ◌∷◌, ◌++◌, Option, Some, None, length, nat_lt, codes, refl, sym, ◌∙◌, subst, ap, arith}
+use Rattle.std.proofs.Common.{◌≡◌, ℕ, Bool, true, false, ◌&&◌, if◌then◌else◌, List, [], ◌∷◌, Option, Some, None, length, nat_lt, codes, refl, sym, ◌∙◌, subst, ap}
 use Rattle.std.specs.List.{list_all}
 use Rattle.std.specs.Option.{option_map}
 use Rattle.std.specs.Str.{bytes_eq}
-use Rattle.std.proofs.lemmas.Bool.{and_parts, and_from, lt-ltb}
+use Rattle.std.proofs.lemmas.Bool.{and_parts, and_from}
 use Rattle.xc_base.proofs.Naming.{same_bytes}
 use Rattle.xc_base.specs.Words.{is_name, is_file_word}
 use Rattle.xc_base.specs.Deciding.{Decides}
@@ -14,7 +14,7 @@ use Rattle.xc_sigmap.specs.declared.statement.Pair.{Pair}
 use Rattle.xc_sigmap.specs.declared.statement.Statement.{Statement}
 use Rattle.xc_sigmap.specs.declared.statement.Statement.TheVariants.{Map, Use, Var, Prop, Send, Tell, Stutter}
 use Rattle.xc_sigmap.specs.MapFiles.{IsDue, is_due, spelling, has_names, is_prop_name, is_named_pair, pair_tokens, told_tokens, told_word, map_format}
-use Rattle.xc_sigmap.specs.Deciding.{given, map_line, use_line, var_line, prop_line, is_pair, pairs_in, send_line, named_told, constant_told, told_in, tell_line, stutter_line, word_line, line, placed, decide}
+use Rattle.xc_sigmap.specs.Deciding.{given, map_line, use_line, var_line, prop_line, is_pair, pairs_in, send_line, told_in, tell_line, stutter_line, word_line, line, placed, decide}
 
 -- the tokens are the statement's, and it has its names
 record IsStated (tokens : List (List ℕ)) (s : Statement) : Type 0 where

@@ -1,21 +1,21 @@
 -- The declarations of a sound map, one after another, are faultless.
-use Rattle.std.proofs.Common.{◌≡◌, ℕ, suc, ◌+◌, ◌*◌, ◌^◌, ◌<◌, ◌≤◌, Bool, true, false, ◌&&◌, ◌||◌, not, if◌then◌else◌, nat_lt, nat_le, List, [], ◌∷◌, ◌++◌, map, length, length-append, None, refl, sym, ◌∙◌, ap, subst, append_assoc, arith}
+use Rattle.std.proofs.Common.{◌≡◌, ℕ, ◌*◌, ◌<◌, ◌≤◌, true, false, ◌&&◌, ◌||◌, not, nat_lt, nat_le, List, [], ◌∷◌, ◌++◌, map, length, length-append, None, refl, sym, ◌∙◌, ap, subst, append_assoc, arith}
 use Rattle.std.specs.List.{list_any, list_all}
 use Rattle.std.specs.Str.{bytes_eq}
 use Rattle.std.proofs.lemmas.Bool.{and_parts, and_from, or_parts, or_from, not-true, leb-true, le-ltb, lt-ltb}
-use Rattle.std.proofs.lemmas.List.{append-nil, map-append}
-use Rattle.std.proofs.lemmas.List.Folds.{list_any-append, list_all-append}
+use Rattle.std.proofs.lemmas.List.{map-append}
+use Rattle.std.proofs.lemmas.List.Folds.{list_any-append}
 use Rattle.std.proofs.Math.Nat.{mul-le-mul_left, mul_assoc}
 use Rattle.xc_theory.specs.Codes.{total}
 use Rattle.xc_base.specs.Names.{is_among, has_twice}
-use Rattle.xc_base.specs.Formats.{Excess, IsFaultless}
+use Rattle.xc_base.specs.Formats.{Excess}
 use Rattle.xc_expr.specs.Variables.{names_of, sizes_of, is_domain, state_limit}
 use Rattle.xc_expr.specs.Written.{is_variable_name, is_value_name}
 use Rattle.xc_expr.specs.declared.domain.Domain.{Domain}
 use Rattle.xc_sigmap.specs.declared.parts.Use as viewpoints
 use Rattle.xc_sigmap.specs.declared.statement.Statement.{Statement}
-use Rattle.xc_sigmap.specs.declared.statement.Statement.TheVariants.{Map, Use, Var, Prop}
-use Rattle.xc_sigmap.specs.MapFiles.{spelling, is_due, is_prop_name, uses_of, vars_of, props_of, use_names, use_limit, prop_limit, line_excess, var_excess, map_format}
+use Rattle.xc_sigmap.specs.declared.statement.Statement.TheVariants.{Use, Var, Prop}
+use Rattle.xc_sigmap.specs.MapFiles.{is_due, is_prop_name, uses_of, vars_of, props_of, use_names, use_limit, prop_limit, line_excess, var_excess}
 use Rattle.xc_sigmap.specs.Sound.{is_named_use, is_named_var}
 use Rattle.xc_sigmap.proofs.Fair.{uses_append, vars_append, props_append, not_same}
 use Rattle.xc_sigmap.proofs.Restating.{AreFaultless, due_after}

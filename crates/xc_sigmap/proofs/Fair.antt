@@ -1,8 +1,8 @@
 -- Faultless statements, one after another, are fair.
-use Rattle.std.proofs.Common.{◌≡◌, ℕ, ◌+◌, ◌<◌, ◌≤◌, Bool, true, false, ◌&&◌, ◌||◌, not, if◌then◌else◌, nat_lt, nat_le, List, [], ◌∷◌, ◌++◌, length, length-append, Some, None, refl, sym, ◌∙◌, ap, subst, arith}
+use Rattle.std.proofs.Common.{◌≡◌, ℕ, ◌<◌, ◌≤◌, Bool, true, false, ◌&&◌, ◌||◌, not, if◌then◌else◌, nat_lt, nat_le, List, [], ◌∷◌, ◌++◌, length, length-append, Some, None, refl, sym, ◌∙◌, ap, subst, arith}
 use Rattle.std.specs.List.{list_all, list_any}
 use Rattle.std.specs.Str.{bytes_eq}
-use Rattle.std.proofs.lemmas.Bool.{and_from, and_parts, or_parts, or_from, ltb-true, ltb-false, not_from_false, not-true, not-false, false_from_ne_true, both_ways}
+use Rattle.std.proofs.lemmas.Bool.{and_from, and_parts, or_parts, or_from, ltb-true, ltb-false, not_from_false, not-false, false_from_ne_true, both_ways}
 use Rattle.std.proofs.lemmas.List.{append-nil, map-append}
 use Rattle.std.proofs.lemmas.List.Folds.{list_all-append, list_any-append}
 use Rattle.xc_theory.specs.Codes.{total}
@@ -15,7 +15,7 @@ use Rattle.xc_expr.specs.declared.domain.Domain.{Domain}
 use Rattle.xc_sigmap.specs.declared.parts.Use as viewpoints
 use Rattle.xc_sigmap.specs.declared.statement.Statement.{Statement}
 use Rattle.xc_sigmap.specs.declared.statement.Statement.TheVariants.{Map, Use, Var, Prop, Send, Tell, Stutter}
-use Rattle.xc_sigmap.specs.MapFiles.{is_map, is_late, may_follow, last_of, is_due, has_names, uses_of, vars_of, props_of, use_names, carried_names, values_named, says_again, has_use, has_source, is_repeated, is_unknown, use_limit, prop_limit, line_excess, var_excess, excess_of, map_format}
+use Rattle.xc_sigmap.specs.MapFiles.{is_late, may_follow, last_of, is_due, has_names, uses_of, vars_of, props_of, use_names, carried_names, values_named, says_again, has_use, has_source, is_repeated, is_unknown, use_limit, prop_limit, line_excess, var_excess, excess_of, map_format}
 use Rattle.xc_sigmap.specs.Sound.{has_two}
 use Rattle.xc_sigmap.specs.Drafts.{begins, ends_late, is_known, AreSized, IsFair}
 

@@ -1,13 +1,13 @@
 -- Where names stand, and which there are.
-use Rattle.std.proofs.Common.{◌≡◌, ℕ, suc, ◌+◌, ◌-◌, ◌<◌, ◌≤◌, Bool, true, false, cond, not, ◌&&◌, ◌||◌, nat_lt, List, [], ◌∷◌, map, length, length-drop, drop, take, drop-cons, add-one, get_or, Option, Some, None, refl, sym, ◌∙◌, subst, ap, arith}
-use Rattle.std.specs.List.{list_any, list_all, position, position_or_len, slice_index_or}
+use Rattle.std.proofs.Common.{◌≡◌, ℕ, suc, ◌+◌, ◌-◌, ◌<◌, Bool, true, false, cond, not, ◌&&◌, ◌||◌, nat_lt, List, [], ◌∷◌, map, length, length-drop, drop, take, drop-cons, add-one, get_or, Some, None, refl, sym, ◌∙◌, ap, arith}
+use Rattle.std.specs.List.{list_any, list_all, position, position_or_len}
 use Rattle.std.specs.Str.{bytes_eq}
-use Rattle.std.proofs.lemmas.Bool.{ltb-true, ltb-false, lt-ltb, both_ways, false_from_ne_true}
+use Rattle.std.proofs.lemmas.Bool.{ltb-true, lt-ltb, false_from_ne_true}
 use Rattle.std.proofs.lemmas.List.{length-map, take_all, get_or_default}
 use Rattle.std.proofs.lemmas.List.Sums.{AllPass-from_list_all}
 use Rattle.std.proofs.lemmas.List.Folds.{list_all-map}
 use Rattle.xc_base.specs.Names.{is_among, has_twice, place_of}
-use Rattle.xc_base.proofs.Naming.{among_in_range, twice_from}
+use Rattle.xc_base.proofs.Naming.{among_in_range}
 use Rattle.xc_expr.specs.Variables.{names_of, values_at}
 use Rattle.xc_expr.specs.declared.domain.Domain.{Domain}
 use Rattle.xc_sigmap.specs.declared.parts.Use.{Use}

@@ -1,16 +1,13 @@
 -- The parts that are gathered from a draft are those of its map.
 use Rattle.std.proofs.Common.{◌≡◌, ℕ, ◌≤◌, true, List, [], ◌∷◌, length, get_or, None, sym, ◌∙◌, ap, subst, arith}
 use Rattle.std.specs.List.{list_all}
-use Rattle.xc_expr.specs.Variables.{are_fit}
-use Rattle.xc_expr.specs.declared.domain.Domain.{Domain}
 use Rattle.xc_sigmap.specs.declared.draft.Draft.{Draft}
 use Rattle.xc_sigmap.specs.declared.names.Names.{Names}
-use Rattle.xc_sigmap.specs.declared.parts.Use.{Use}
 use Rattle.xc_sigmap.specs.declared.parts.SendLine.{SendLine}
 use Rattle.xc_sigmap.specs.declared.parts.Tell.{Tell}
 use Rattle.xc_sigmap.specs.declared.parts.Stutter.{Stutter}
 use Rattle.xc_sigmap.specs.declared.statement.Statement.{Statement}
-use Rattle.xc_sigmap.specs.MapFiles.{MapValue, is_map, uses_of, vars_of, props_of, first_name, sends_of, tells_of, stutters_of, missing_part, map_of}
+use Rattle.xc_sigmap.specs.MapFiles.{MapValue, is_map, vars_of, first_name, sends_of, tells_of, stutters_of, missing_part, map_of}
 use Rattle.xc_sigmap.specs.Sound.{is_sound}
 use Rattle.xc_sigmap.specs.Drafts.{begins}
 use Rattle.xc_sigmap.specs.Drafted.{named_in, is_known, AreFew}

@@ -1,20 +1,19 @@
 -- The lines of a canonical text can be cut again, and none is too long.
-use Rattle.std.proofs.Common.{◌≡◌, ℕ, zero, suc, ◌+◌, ◌*◌, ◌<◌, ◌≤◌, ◌==◌, Bool, true, false, ◌&&◌, ◌||◌, not, if◌then◌else◌, nat_lt, nat_le, List, [], ◌∷◌, ◌++◌, map, length, length-append, codes, refl, sym, ◌∙◌, ap, subst, arith}
-use Rattle.std.specs.List.{list_any, list_all}
-use Rattle.std.proofs.lemmas.Bool.{and_parts, and_from, or_parts, or_from, lt-ltb, le-leb, leb-true, ltb-true, not-true, not_from_false, ne_eqb, both_ways}
+use Rattle.std.proofs.Common.{◌≡◌, ℕ, ◌==◌, true, false, ◌&&◌, ◌||◌, not, nat_lt, nat_le, List, [], ◌∷◌, ◌++◌, map, length, codes, refl, sym, ◌∙◌, ap, subst, arith}
+use Rattle.std.specs.List.{list_all}
+use Rattle.std.proofs.lemmas.Bool.{and_parts, and_from, lt-ltb, ne_eqb, both_ways}
 use Rattle.xc_base.specs.Words.{is_word_byte, is_word, is_name, is_file_word}
-use Rattle.xc_base.specs.Canonical.{spaced, canonical, numbered, is_token, run_together, are_apart, is_line, is_short}
+use Rattle.xc_base.specs.Canonical.{canonical, is_token, run_together, are_apart, is_line}
 use Rattle.xc_base.specs.Formats.{Row, IsAccepted}
 use Rattle.xc_base.specs.Lines.{text_rows}
-use Rattle.xc_base.specs.Text.{joins, joins_next}
+use Rattle.xc_base.specs.Text.{joins}
 use Rattle.xc_base.proofs.CanonicalTexts.{canonical_is_cut}
 use Rattle.xc_expr.specs.Written.{is_variable_name, is_value_name}
-use Rattle.xc_sigmap.specs.declared.parts.Told.{Told}
 use Rattle.xc_sigmap.specs.declared.parts.Told.TheVariants.{Named, Constant}
 use Rattle.xc_sigmap.specs.declared.statement.Pair.{Pair}
 use Rattle.xc_sigmap.specs.declared.statement.Statement.{Statement}
 use Rattle.xc_sigmap.specs.declared.statement.Statement.TheVariants.{Map, Use, Var, Prop, Send, Tell, Stutter}
-use Rattle.xc_sigmap.specs.MapFiles.{MapValue, spelling, has_names, is_prop_name, is_named_pair, pair_tokens, told_tokens, told_word, map_format}
+use Rattle.xc_sigmap.specs.MapFiles.{MapValue, spelling, has_names, is_named_pair, pair_tokens, map_format}
 use Rattle.xc_sigmap.specs.Sound.{is_sound}
 use Rattle.xc_sigmap.specs.Printing.{statements_in, map_lines}
 use Rattle.xc_sigmap.proofs.Restating.{AreFaultless}

@@ -1,5 +1,5 @@
 -- What fair statements of a whole file say is sound.
-use Rattle.std.proofs.Common.{◌≡◌, ℕ, ◌<◌, ◌≤◌, ◌==◌, Bool, true, false, ◌&&◌, ◌||◌, not, if◌then◌else◌, nat_lt, nat_le, List, [], ◌∷◌, map, length, Option, Some, None, refl, sym, ◌∙◌, ap, subst, arith}
+use Rattle.std.proofs.Common.{◌≡◌, ℕ, ◌<◌, ◌≤◌, ◌==◌, Bool, true, false, ◌&&◌, not, if◌then◌else◌, nat_lt, List, [], ◌∷◌, map, length, Some, None, refl, sym, ◌∙◌, ap, subst, arith}
 use Rattle.std.specs.List.{list_all, list_any}
 use Rattle.std.specs.Str.{bytes_eq}
 use Rattle.std.proofs.lemmas.Bool.{and_parts, and_from, or_parts, or_from, not-true, not_from_false, ltb-true, lt-ltb, le-leb, eq-eqb, ne_eqb}
@@ -22,7 +22,7 @@ use Rattle.xc_sigmap.specs.declared.parts.Stutter as gaps
 use Rattle.xc_sigmap.specs.declared.statement.Pair.{Pair}
 use Rattle.xc_sigmap.specs.declared.statement.Statement.{Statement}
 use Rattle.xc_sigmap.specs.declared.statement.Statement.TheVariants.{Map, Use, Var, Prop, Send, Tell, Stutter}
-use Rattle.xc_sigmap.specs.MapFiles.{MapValue, is_map, has_names, is_named_pair, is_prop_name, told_word, uses_of, vars_of, props_of, use_names, carried_names, values_named, says_again, use_limit, prop_limit, missing_part, later_part, first_name, carry, sends_of, tells_of, stutters_of, map_of}
+use Rattle.xc_sigmap.specs.MapFiles.{MapValue, has_names, is_named_pair, is_prop_name, told_word, uses_of, vars_of, props_of, use_names, carried_names, values_named, says_again, use_limit, prop_limit, missing_part, first_name, carry, sends_of, tells_of, stutters_of, map_of}
 use Rattle.xc_sigmap.specs.Sound.{has_two, is_named_use, is_named_var, same_value, same_send, same_tell, same_stutter, is_carry_in, is_send_in, is_tell_in, is_stutter_in, are_declared, are_told, is_sound}
 use Rattle.xc_sigmap.specs.Drafts.{begins, is_known, IsFair}
 use Rattle.xc_sigmap.proofs.Sizes.{fit_from_sized}

@@ -1,27 +1,24 @@
 -- The lines of a sound map on what viewpoints send and tell are faultless after the declarations.
-use Rattle.std.proofs.Common.{◌≡◌, ℕ, zero, suc, ◌+◌, ◌<◌, ◌≤◌, ◌==◌, Bool, true, false, ◌&&◌, ◌||◌, not, nat_lt, nat_le, List, [], ◌∷◌, ◌++◌, map, length, refl, sym, ◌∙◌, ap, subst, arith}
-use Rattle.std.specs.List.{list_any, list_all, slice_index_or}
+use Rattle.std.proofs.Common.{◌≡◌, ℕ, zero, suc, ◌<◌, ◌==◌, Bool, true, false, ◌&&◌, not, nat_lt, List, [], ◌∷◌, map, length, refl, sym, ◌∙◌, ap, subst, arith}
+use Rattle.std.specs.List.{list_any, list_all}
 use Rattle.std.specs.Str.{bytes_eq}
-use Rattle.std.proofs.lemmas.Bool.{and_parts, and_from, or_parts, or_from, not-true, not_from_false, ltb-true, eq-eqb, ne_eqb, eqb-true}
+use Rattle.std.proofs.lemmas.Bool.{and_parts, and_from, or_parts, or_from, not-true, ltb-true, eq-eqb, ne_eqb}
 use Rattle.std.proofs.lemmas.List.{length-map}
 use Rattle.std.proofs.lemmas.List.Sums.{AllPass-from_list_all}
-use Rattle.std.proofs.lemmas.List.Folds.{list_all-map}
 use Rattle.xc_base.specs.Formats.{IsFaultless}
 use Rattle.xc_base.specs.Names.{is_among, has_twice, name_at, place_of}
 use Rattle.xc_base.specs.Words.{is_name}
 use Rattle.xc_base.proofs.Naming.{same_bytes, bytes_refl, among_at, place_of-name_at, same_place}
 use Rattle.xc_expr.specs.Variables.{names_of, values_at, is_domain}
-use Rattle.xc_expr.specs.Written.{is_variable_name, is_value_name}
+use Rattle.xc_expr.specs.Written.{is_value_name}
 use Rattle.xc_expr.specs.declared.domain.Domain.{Domain}
 use Rattle.xc_sigmap.specs.declared.parts.Use as viewpoints
 use Rattle.xc_sigmap.specs.declared.parts.Carry.{Carry}
 use Rattle.xc_sigmap.specs.declared.parts.SendLine.{SendLine}
 use Rattle.xc_sigmap.specs.declared.parts.Tell as tellings
 use Rattle.xc_sigmap.specs.declared.parts.Stutter as gaps
-use Rattle.xc_sigmap.specs.declared.statement.Pair.{Pair}
 use Rattle.xc_sigmap.specs.declared.statement.Statement.{Statement}
-use Rattle.xc_sigmap.specs.declared.statement.Statement.TheVariants.{Send, Tell, Stutter}
-use Rattle.xc_sigmap.specs.MapFiles.{MapValue, spelling, is_named_pair, told_word, use_names, carried_names, values_named, says_again, uses_of, vars_of, props_of, has_use, has_source, carry, sends_of, tells_of, stutters_of, map_format}
+use Rattle.xc_sigmap.specs.MapFiles.{MapValue, spelling, is_named_pair, use_names, carried_names, values_named, says_again, props_of, has_use, has_source, carry, sends_of, tells_of, stutters_of, map_format}
 use Rattle.xc_sigmap.specs.Sound.{has_two, is_named_use, is_named_var, is_carry_in, is_send_in, is_tell_in, is_stutter_in, same_value, same_send, same_tell, same_stutter}
 use Rattle.xc_sigmap.specs.Printing.{use_at, paired, sending, telling, stuttering}
 use Rattle.xc_sigmap.proofs.Restating.{IsBehind}

@@ -1,5 +1,5 @@
 use Rattle.std.proofs.Common.{◌∙◌}
-use Rattle.xc_sigmap.proofs.Gathered.{names_are_few, all_is_known, gathered, gathered_sound}
+use Rattle.xc_sigmap.proofs.Gathered.{names_are_few, gathered, gathered_sound}
 use Rattle.xc_sigmap.proofs.gather.gather.Goals as goal
 
 pub send_lines-requires-clause-few : goal.send_lines-requires-clause-few

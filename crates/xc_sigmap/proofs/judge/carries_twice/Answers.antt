@@ -1,4 +1,4 @@
-use Rattle.std.proofs.Common.{◌≡◌, ◌||◌, ◌+◌, Bool, drop, sym, ◌∙◌, ap}
+use Rattle.std.proofs.Common.{◌||◌, ◌+◌, Bool, drop, sym, ◌∙◌, ap}
 use Rattle.xc_base.specs.Names.{has_twice}
 use Rattle.xc_sigmap.specs.MapFiles.{carried_names}
 use Rattle.xc_sigmap.proofs.Finding.{carried_step}
