@@ -11,6 +11,7 @@ use Rattle.std.proofs.lemmas.List.FromFn.{get_or-map-range_with_len}
 use Rattle.xc_theory.proofs.Codes.{digits_are_in_range}
 use Rattle.xc_top.specs.Checks.{places_text, value_text, formula_text, formulas_text, states_of}
 use Rattle.xc_top.proofs.Framing.{drop_read}
+use Rattle.xc_top.specs.Evaluating.{AreRows, IsRow}
 use Rattle.xc_top.specs.Saying.{place_text, initial_text}
 use Rattle.std.proofs.Math.Seq.{drop-length}
 use Rattle.std.proofs.lemmas.Grind.{flat_map-append}
@@ -92,6 +93,15 @@ row_room v s row low e = place_room v.vars row (row_digits v s row low e)
 -- the places of a state that is read
 pub row_read : (v : ViewValue) (places : List (List ℕ)) (i : ℕ) (x : List ℕ) → places ≡ map (row_at v) (range_with_len 0 (states_of v)) → i < states_of v → x ≡ get_or places i x → x ≡ row_at v i
 row_read v places i x e low is = is ∙ ap (λ (rows : List (List ℕ)). get_or rows i x) e ∙ get_or-map-range_with_len (row_at v) 0 (states_of v) i i x low (omega arith)
+
+-- each of rows of codes is a row of codes
+pub row_given : (size n : ℕ) (rows : List (List ℕ)) (i : ℕ) (x y : List ℕ) → AreRows size n rows → i < length rows → x ≡ get_or rows i x → y ≡ x → IsRow size n y
+row_given size n rows i x y h low is same =
+    let read : y ≡ get_or rows i [] = same ∙ get_or_read rows i x low is [] in
+    record {
+      count = ap (λ (r : List ℕ). length r) read ∙ h.lengths i low;
+      range = λ s within. subst (λ (r : List ℕ). slice_index r s < size) (sym read) (h.range i s low within);
+    }
 
 -- the text of the formulas from one on is that of it and those behind it
 pub formula_pushed : (v : ViewValue) (l : LatticeValue) (rows : List (List ℕ)) (i : ℕ) (x y text new base : List ℕ) → i < length rows → x ≡ get_or rows i x → y ≡ x → text ++ formulas_text v l (i + 1) (map slice_index (drop i rows)) ≡ base

@@ -1,0 +1,10 @@
+pub mod MapFiles
+pub mod Sound
+pub mod Maps
+pub mod Deciding
+pub mod Laws
+pub mod Drafts
+pub mod Drafted
+pub mod Kept
+pub mod Printing
+pub mod Written
