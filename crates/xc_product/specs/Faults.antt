@@ -6,7 +6,7 @@ use Rattle.xc_alg.specs.Products.{sizes}
 use Rattle.xc_product.specs.declared.fault.ProductFault.{ProductFault}
 use Rattle.xc_product.specs.declared.fault.ProductFault.TheVariants.{TooLarge, Memory}
 
--- the sizes multiply to that number, over 4,096; want of memory is told of parts that are not too large alone
+-- the sizes multiply to that number, over 4,096; want of memory is told only of parts that are not too large
 abbrev pub IsFaultOf : List LatticeData → ProductFault → Type 0
 IsFaultOf parts (TooLarge size) = (size ≡ total (sizes parts)) × (4096 < size)
 IsFaultOf parts Memory = total (sizes parts) ≤ 4096

@@ -20,11 +20,12 @@ HaveHeights parts = ∥ ((heights : List ℕ) × AreHeights parts heights) ∥�
 abbrev pub IsSumOfHeights : List LatticeData → ℕ → Type 0
 IsSumOfHeights parts height = (heights : List ℕ) × AreHeights parts heights × (height ≡ sum heights)
 
+-- What the steps of the code make of pairs: public clauses do not rest on these words.
 -- the pairs are of elements of which the first is below the second
 abbrev pub AreOfOrder : LatticeData → List Pair → Type 0
 AreOfOrder l pairs = (a b : ℕ) → IsListed pairs a b → (a < size l) × (b < size l) × (below l a b ≡ true)
 
--- all such pairs whose first element is below a number, and no others
+-- all such pairs whose first element stands before a number, and only pairs of the order
 pub record ListsRows (l : LatticeData) (rows : ℕ) (pairs : List Pair) : Type 0 where
   pub sound : AreOfOrder l pairs
   pub listed : (a b : ℕ) → a < rows → b < size l → below l a b ≡ true → IsListed pairs a b

@@ -9,6 +9,7 @@ use Rattle.xc_alg.specs.declared.any_table.AnyTable.{AnyTable}
 abbrev pub lattices : List AnyTable → List LatticeData
 lattices tables = map lattice_in_any tables
 
+-- What a product keeps: public clauses do not rest on these words.
 -- how many codes the parts after a part have
 abbrev pub weight : List AnyTable → ℕ → ℕ
 weight tables part = (product (lattices (drop (part + 1) tables))).size

@@ -41,7 +41,7 @@ impl Product {
     ghost use Rattle.xc_product.specs.Faults.{IsFaultOf};
 
     /// The product of some parts, in order. Where their sizes multiply to more than 4,096 it fails with that number, and
-    /// else only where there is no memory.
+    /// else it may fail for want of memory.
     pub fn of(alloc: Global, parts: List<AnyTable>) -> Result<Product, ProductFault>
         requires several { 1 ≤ length parts }
         requires few { length parts ≤ 8 }
@@ -83,9 +83,11 @@ impl Product {
         })
     }
 
-    /// How many parts there are.
+    /// How many parts there are: from 1 to 8.
     pub fn parts(&self) -> u8
-        ensures { result ≡ length (parts_of self.now) }
+        ensures count { result ≡ length (parts_of self.now) }
+        ensures several { 1 ≤ result }
+        ensures few { result ≤ 8 }
     {
         self.tables.len() as u8
     }

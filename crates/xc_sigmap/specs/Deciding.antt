@@ -1,4 +1,5 @@
 -- Which statement of a map file a row is.
+-- Words for the steps of the code: public clauses do not rest on them.
 use Rattle.std.specs.Prelude.{ℕ, Bool, ◌&&◌, nat_lt, if◌then◌else◌, List, [], ◌∷◌, length, Option, Some, None, codes}
 use Rattle.std.specs.List.{list_all}
 use Rattle.std.specs.Option.{option_map}

@@ -176,7 +176,7 @@ is_repeated before (Send viewpoint variable source pairs) = list_any (says_again
 is_repeated before (Tell viewpoint prop told) = list_any (says_again (Tell viewpoint prop told)) before
 is_repeated before (Stutter viewpoint value) = list_any (says_again (Stutter viewpoint value)) before
 
--- whether there are a viewpoint, a variable, a variable with all these values, and a proposition of the name
+-- whether there is a viewpoint of the name
 abbrev pub has_use : List Statement → List ℕ → Bool
 has_use before name = is_among (use_names (uses_of before)) name
 
@@ -184,6 +184,7 @@ has_use before name = is_among (use_names (uses_of before)) name
 abbrev pub values_named : List Domain → List ℕ → List (List ℕ)
 values_named vars name = values_at vars (place_of (names_of vars) name)
 
+-- whether there is a variable of the name, with all the values that pairs carry
 abbrev pub has_source : List Statement → List ℕ → List Pair → Bool
 has_source before source pairs = is_among (names_of (vars_of before)) source && list_all (is_among (values_named (vars_of before) source)) (carried_names pairs)
 

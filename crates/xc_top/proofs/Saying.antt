@@ -1,5 +1,5 @@
 -- The parts of the text of the values of formulas.
-use Rattle.std.proofs.Common.{◌≡◌, ℕ, zero, suc, ◌+◌, ◌<◌, ◌≤◌, Bool, true, false, slice_index, List, [], ◌∷◌, ◌++◌, length, map, get_or, drop, add-one, append_assoc, append-nil, refl, sym, ◌∙◌, ap, arith}
+use Rattle.std.proofs.Common.{◌≡◌, ℕ, zero, suc, ◌+◌, ◌<◌, ◌≤◌, Bool, true, false, slice_index, List, [], ◌∷◌, ◌++◌, length, map, get_or, drop, add-one, append_assoc, append-nil, refl, sym, ◌∙◌, ap, subst, arith}
 use Rattle.std.specs.List.{range_with_len, filter, flat_map}
 use Rattle.xc_theory.specs.Codes.{AreDigits}
 use Rattle.xc_expr.specs.Variables.{sizes_of}
@@ -7,6 +7,7 @@ use Rattle.xc_expr.specs.declared.domain.Domain.{Domain}
 use Rattle.xc_view.specs.ViewFiles.{ViewValue}
 use Rattle.xc_view.specs.Meaning.{is_initial, row_at}
 use Rattle.xc_lattice.specs.LatticeFiles.{LatticeValue}
+use Rattle.std.proofs.lemmas.List.{get_or_read}
 use Rattle.std.proofs.lemmas.List.FromFn.{get_or-map-range_with_len}
 use Rattle.xc_theory.proofs.Codes.{digits_are_in_range}
 use Rattle.xc_top.specs.Checks.{places_text, value_text, formula_text, formulas_text, states_of}

@@ -30,4 +30,6 @@ pub use status::Status;
 #[cfg(test)]
 mod check_tests;
 #[cfg(test)]
+mod product_tests;
+#[cfg(test)]
 mod tests;
