@@ -1,7 +1,7 @@
 -- Lines of words alone, and how long the text of tokens is.
-use Rattle.std.proofs.Common.{◌≡◌, ℕ, zero, suc, ◌+◌, ◌*◌, ◌<◌, ◌≤◌, Bool, true, false, not, ◌&&◌, ◌||◌, nat_lt, nat_le, if◌then◌else◌, List, [], ◌∷◌, ◌++◌, length, length-append, refl, sym, ◌∙◌, ap, inl, inr, arith}
+use Rattle.std.proofs.Common.{◌≡◌, ℕ, ◌+◌, ◌*◌, ◌<◌, ◌≤◌, Bool, true, false, not, ◌&&◌, if◌then◌else◌, List, [], ◌∷◌, ◌++◌, length, length-append, refl, arith}
 use Rattle.std.specs.List.{list_all}
-use Rattle.std.proofs.lemmas.Bool.{cases_Bool, and_parts, and_from, or_left, lt-ltb, le-leb}
+use Rattle.std.proofs.lemmas.Bool.{and_parts, and_from, or_left, lt-ltb, le-leb}
 use Rattle.xc_base.specs.Words.{is_word}
 use Rattle.xc_base.specs.Canonical.{spaced, is_symbol, is_token, run_together, are_apart, is_line, is_short}
 

@@ -1,15 +1,15 @@
 -- The canonical file of a lattice says that lattice.
-use Rattle.std.proofs.Common.{◌≡◌, ℕ, zero, suc, ◌<◌, ◌≤◌, ◌+◌, ◌*◌, Bool, true, false, cond, not, eqb, ◌&&◌, ◌||◌, nat_lt, nat_le, if◌then◌else◌, List, [], ◌∷◌, ◌++◌, length, map, get_or, append_assoc, append-nil, Some, None, Option, ◌⊎◌, inl, inr, refl, sym, ◌∙◌, subst, ap, arith}
-use Rattle.std.specs.Prelude.{filter, find, codes}
-use Rattle.std.specs.List.{list_any, list_all, flat_map, range_with_len, Contains}
+use Rattle.std.proofs.Common.{◌≡◌, ℕ, zero, suc, ◌<◌, ◌≤◌, ◌+◌, Bool, true, false, cond, not, eqb, ◌&&◌, nat_le, if◌then◌else◌, List, [], ◌∷◌, ◌++◌, length, map, get_or, append_assoc, append-nil, Some, None, ◌⊎◌, inl, inr, refl, sym, ◌∙◌, subst, ap, arith}
+use Rattle.std.specs.Prelude.{filter, find}
+use Rattle.std.specs.List.{list_any, list_all, flat_map, range_with_len}
 use Rattle.std.specs.Str.{bytes_eq}
-use Rattle.std.proofs.lemmas.Bool.{cases_Bool, cases_eq, and_parts, and_from, or_from, or_left, or_right, false_from_ne_true, eqb-true, eq-eqb, ne_eqb, lt-ltb, le-leb, not-true, not_from_false, not_from_true}
+use Rattle.std.proofs.lemmas.Bool.{cases_Bool, cases_eq, and_parts, and_from, or_from, or_right, false_from_ne_true, ne_eqb, lt-ltb, le-leb, not_from_false, not_from_true}
 use Rattle.std.proofs.lemmas.List.Folds.{list_any_at}
 use Rattle.std.proofs.lemmas.List.Sums.{AllPass-from_list_all}
-use Rattle.std.proofs.lemmas.List.FromFn.{length-range_with_len, length-map-range_with_len, get_or-map-range_with_len}
-use Rattle.xc_theory.specs.Orders.{is_below, elements, IsSquare, Leads, Reaches, IsSpannedBy}
-use Rattle.xc_theory.specs.Lattices.{LatticeData, size, below, negation}
-use Rattle.xc_base.specs.Words.{is_word, is_name}
+use Rattle.std.proofs.lemmas.List.FromFn.{length-map-range_with_len, get_or-map-range_with_len}
+use Rattle.xc_theory.specs.Orders.{is_below, elements, IsSquare, Leads, IsSpannedBy}
+use Rattle.xc_theory.specs.Lattices.{LatticeData, below, negation}
+use Rattle.xc_base.specs.Words.{is_name}
 use Rattle.xc_base.specs.Names.{is_among, has_twice, name_at, place_of}
 use Rattle.xc_base.specs.Formats.{Row, Excess, IsFaultless, AreStatements, IsAccepted}
 use Rattle.xc_base.specs.Formats.AreStatements.{none, next}
@@ -19,7 +19,7 @@ use Rattle.xc_base.proofs.CanonicalTexts.{numbered_more, numbered_none}
 use Rattle.xc_base.proofs.Naming.{same_bytes, bytes_refl, among_at, among_in_range, name_at-place_of, same_place, in_range}
 use Rattle.xc_lattice.specs.declared.statement.Statement.{Statement}
 use Rattle.xc_lattice.specs.declared.statement.Statement.TheVariants.{Lattice, Elements, Below, Not}
-use Rattle.xc_lattice.specs.LatticeFiles.{LatticeValue, spelling, has_names, element_names, negates, element_excess, negation_part, missing_part, SaysBelow, SaysNegation, Says, lattice_format}
+use Rattle.xc_lattice.specs.LatticeFiles.{LatticeValue, spelling, negates, negation_part, missing_part, SaysBelow, SaysNegation, lattice_format}
 use Rattle.xc_lattice.specs.Drafts.{IsFact, AreFacts, IsReady}
 use Rattle.xc_lattice.specs.Printed.{is_strictly_below, below_statements, not_statements, printed, lattice_lines}
 use Rattle.xc_lattice.proofs.Drafts.{Has, Contains-from_Has, Has-from_Contains}

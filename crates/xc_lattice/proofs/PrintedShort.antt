@@ -1,18 +1,16 @@
 -- The lines of a lattice's canonical file are lines, none of them too long.
-use Rattle.std.proofs.Common.{◌≡◌, ℕ, zero, suc, ◌<◌, ◌≤◌, ◌+◌, ◌*◌, Bool, true, not, ◌&&◌, List, [], ◌∷◌, ◌++◌, length, map, refl, arith}
+use Rattle.std.proofs.Common.{◌≡◌, ℕ, ◌≤◌, true, not, ◌&&◌, List, [], ◌∷◌, ◌++◌, length, map, refl, arith}
 use Rattle.std.specs.Prelude.{codes, nat_le}
-use Rattle.std.specs.List.{list_any, list_all, flat_map}
+use Rattle.std.specs.List.{list_any, list_all}
 use Rattle.std.proofs.lemmas.Bool.{and_parts, and_from, leb-true}
-use Rattle.xc_theory.specs.Orders.{elements}
 use Rattle.xc_base.specs.Words.{is_word, is_name, is_path_byte}
-use Rattle.xc_base.specs.Names.{is_among}
 use Rattle.xc_base.specs.Canonical.{is_line, is_short}
 use Rattle.xc_base.proofs.CanonicalWords.{words_line, AreUpTo, short_line}
 use Rattle.xc_lattice.specs.declared.statement.Statement.{Statement}
 use Rattle.xc_lattice.specs.declared.statement.Statement.TheVariants.{Lattice, Elements, Below, Not}
 use Rattle.xc_lattice.specs.LatticeFiles.{LatticeValue, spelling}
 use Rattle.xc_lattice.specs.Drafts.{IsFact, AreFacts, IsReady}
-use Rattle.xc_lattice.specs.Printed.{below_statements, not_statements, lattice_lines}
+use Rattle.xc_lattice.specs.Printed.{lattice_lines}
 use Rattle.xc_lattice.proofs.PrintedAgain.{among_named, all_facts}
 
 -- a line that is one, and short

@@ -1,5 +1,5 @@
 -- A lattice as a canonical file.
-use Rattle.std.specs.Prelude.{ℕ, Bool, ◌&&◌, ◌==◌, not, List, [], ◌∷◌, ◌++◌, map, filter}
+use Rattle.std.specs.Prelude.{ℕ, Bool, ◌&&◌, ◌==◌, not, List, ◌∷◌, ◌++◌, map, filter}
 use Rattle.std.specs.List.{flat_map}
 use Rattle.xc_theory.specs.Orders.{elements}
 use Rattle.xc_theory.specs.Lattices.{LatticeData, below, negation}

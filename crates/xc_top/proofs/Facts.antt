@@ -41,7 +41,10 @@ err_lines = (refl, refl, refl, refl, refl, refl, refl, refl, refl)
 abbrev bob : ViewValue
 bob =
     record {
-      name = codes "bob"; lattice = codes "chain.lat"; vars = record { name = codes "x"; values = codes "0" ∷ codes "1" ∷ [] } ∷ []; init = tests.Is 0 0;
+      name = codes "bob";
+      lattice = codes "chain.lat";
+      vars = record { name = codes "x"; values = codes "0" ∷ codes "1" ∷ [] } ∷ [];
+      init = tests.Is 0 0;
       props = record { name = codes "p"; value = codes "T"; guard = tests.Is 0 1 } ∷ record { name = codes "q"; value = codes "M"; guard = tests.True } ∷ record { name = codes "p"; value = codes "M"; guard = tests.False } ∷ [];
       commands = record { name = codes "go"; value = codes "M"; guard = tests.Is 0 0; action = assigns.Value 0 1 ∷ [] } ∷ record { name = codes "back"; value = codes "T"; guard = tests.Is 0 1; action = assigns.Value 0 0 ∷ [] } ∷ [];
     }

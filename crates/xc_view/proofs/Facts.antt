@@ -35,7 +35,10 @@ x = codes "x"
 abbrev bob : ViewValue
 bob =
     record {
-      name = codes "bob"; lattice = codes "chain.lat"; vars = record { name = x; values = o ∷ i ∷ [] } ∷ []; init = tests.Is 0 0;
+      name = codes "bob";
+      lattice = codes "chain.lat";
+      vars = record { name = x; values = o ∷ i ∷ [] } ∷ [];
+      init = tests.Is 0 0;
       props = record { name = codes "p"; value = T; guard = tests.Is 0 1 } ∷ [];
       commands = record { name = codes "go"; value = M; guard = tests.Is 0 0; action = assigns.Value 0 1 ∷ [] } ∷ record { name = codes "back"; value = T; guard = tests.Is 0 1; action = assigns.Value 0 0 ∷ [] } ∷ [];
     }

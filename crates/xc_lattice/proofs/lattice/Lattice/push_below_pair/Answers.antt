@@ -1,5 +1,4 @@
-use Rattle.std.proofs.Common.{◌≡◌, false, sym, ◌∙◌}
-use Rattle.xc_lattice.specs.Printed.{is_strictly_below}
+use Rattle.std.proofs.Common.{sym, ◌∙◌}
 use Rattle.xc_lattice.specs.Values.{value_of}
 use Rattle.xc_lattice.proofs.PrintedLines.{pair_without}
 use Rattle.xc_lattice.proofs.lattice.Lattice.push_below_pair.Goals as goal
