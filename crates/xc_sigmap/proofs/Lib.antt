@@ -3,6 +3,7 @@ pub mod Tokens
 pub mod Pairs
 pub mod Finding
 pub mod Following
+pub mod Facts
 pub mod Fair
 pub mod Deciding
 pub mod Reading
