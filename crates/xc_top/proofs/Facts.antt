@@ -1,4 +1,5 @@
 -- Requests, texts and what a check evaluates at small cases whose values are known from outside: a wrong definition does not check here.
+use Rattle.std.specs.Fmt.{decimal}
 use Rattle.std.proofs.Common.{◌≡◌, ℕ, Bool, true, false, List, [], ◌∷◌, ◌++◌, Some, None, codes, refl}
 use Rattle.xc_theory.specs.Bounds.{first_meet, first_join}
 use Rattle.xc_theory.proofs.Facts.{two, chain}
@@ -26,14 +27,14 @@ abbrev of_chain : LatticeValue
 of_chain = record { name = codes "chain"; names = codes "F" ∷ codes "M" ∷ codes "T" ∷ []; algebra = chain }
 
 -- what is written of a lattice, and of one that is broken
-pub lattice_texts : (lattice_text of_two 1 ≡ lines (codes "lattice two elements 2 height 1 bottom F top T")) × (lattice_text of_chain 2 ≡ lines (codes "lattice chain elements 3 height 2 bottom F top T"))
+pub lattice_texts : (lattice_text of_two 1 ≡ lines (codes "lattice two elements " ++ decimal 2 ++ codes " height " ++ decimal 1 ++ codes " bottom " ++ codes "F" ++ codes " top " ++ codes "T")) × (lattice_text of_chain 2 ≡ lines (codes "lattice chain elements " ++ decimal 3 ++ codes " height " ++ decimal 2 ++ codes " bottom " ++ codes "F" ++ codes " top " ++ codes "T"))
     × (broken_text Distributive (codes "a" ∷ codes "b" ∷ codes "c" ∷ []) ≡ lines (codes "broken distributive a b c")) × (broken_text Antisymmetry (codes "F" ∷ codes "T" ∷ []) ≡ lines (codes "broken antisymmetry F T"))
 unfolding first_meet first_join
 lattice_texts = (refl, refl, refl, refl)
 
 -- the lines for err
 pub err_lines : (words_line ≡ lines (codes "refused words")) × (file_line (codes "e.lat") ≡ lines (codes "refused file e.lat")) × (broken_line (codes "m3.lat") Distributive (codes "a" ∷ codes "b" ∷ []) ≡ lines (codes "refused broken m3.lat distributive a b"))
-    × (value_line (codes "bob") (codes "X") ≡ lines (codes "refused value bob X")) × (not_yet_line (codes "ax.ctl") 3 ≡ lines (codes "refused notyet ax.ctl 3")) × (states_line 8192 ≡ lines (codes "refused states 8192"))
+    × (value_line (codes "bob") (codes "X") ≡ lines (codes "refused value bob X")) × (not_yet_line (codes "ax.ctl") 3 ≡ lines (codes "refused notyet ax.ctl " ++ decimal 3)) × (states_line 8192 ≡ lines (codes "refused states " ++ decimal 8192))
     × (read_line (codes "two.lat") ≡ lines (codes "fault read two.lat")) × (write_line ≡ lines (codes "fault write")) × (memory_line ≡ lines (codes "fault memory"))
 err_lines = (refl, refl, refl, refl, refl, refl, refl, refl, refl)
 
@@ -63,6 +64,6 @@ unfolding first_meet first_join
 top_and_bottom = (refl, refl)
 
 -- the lines of a check of it
-pub check_lines : (view_text bob of_chain 2 ≡ lines (codes "view bob states 2 elements 3 height 2")) × (value_text bob of_chain (λ s. 1) 0 ≡ lines (codes "value 0 x=0 M"))
-    × (formula_text bob of_chain 1 (λ s. 1) ≡ lines (codes "formula 1") ++ lines (codes "value 0 x=0 M"))
+pub check_lines : (view_text bob of_chain 2 ≡ lines (codes "view bob states " ++ decimal 2 ++ codes " elements " ++ decimal 3 ++ codes " height " ++ decimal 2)) × (value_text bob of_chain (λ s. 1) 0 ≡ lines (codes "value " ++ decimal 0 ++ codes " x=0" ++ 32 ∷ codes "M"))
+    × (formula_text bob of_chain 1 (λ s. 1) ≡ lines (codes "formula " ++ decimal 1) ++ (lines (codes "value " ++ decimal 0 ++ codes " x=0" ++ 32 ∷ codes "M") ++ []))
 check_lines = (refl, refl, refl)
