@@ -33,12 +33,17 @@ fn chains(alloc: Global, sizes: &[u8]) -> Result<List<AnyTable>, Fail> {
     Ok(parts)
 }
 
+// Whether the negation of the bottom is the top.
+fn is_turned<A: Algebra>(algebra: &A) -> bool {
+    algebra.neg(algebra.bottom()) == algebra.top()
+}
+
 fn told(alloc: Global, product: Result<Product, ProductFault>) -> Result<String, Fail> {
     match product {
         Ok(product) => {
             let copy = product.copy(alloc)?;
             let (parts, size, height) = (copy.parts(), copy.size(), copy.height());
-            let turned = copy.neg(copy.bottom()) == copy.top();
+            let turned = is_turned(&copy);
             Ok(format!(in alloc; "{parts} {size} {height} {turned}")?)
         }
         Err(ProductFault::TooLarge { size }) => Ok(format!(in alloc; "too large {size}")?),
