@@ -142,13 +142,6 @@ module _ {l : LatticeData} {n : ℕ} {meet_rows join_rows : List (List ℕ)} {ne
             laws_of_part.transitive k m (join l m a) (omega arith) hm' (laws_of_part.join_in_range m a hm' ha') (before k (omega arith)) (laws_of_part.join_above_left m a hm' ha')
       ])
 
-  -- an element is below and above itself
-  pub below_self : (k : ℕ) → k < 1 → below l 0 k ≡ true
-  below_self k hk = let e : 0 ≡ k = omega arith in subst (λ (x : ℕ). below l 0 x ≡ true) e (laws_of_part.reflexive 0 (omega (arith, h.several)))
-
-  pub above_self : (k : ℕ) → k < 1 → below l k 0 ≡ true
-  above_self k hk = let e : 0 ≡ k = omega arith in subst (λ (x : ℕ). below l x 0 ≡ true) e (laws_of_part.reflexive 0 (omega (arith, h.several)))
-
   -- what is below all is the bottom, and what is above all is the top
   pub below_all-bottom : (m : ℕ) → m < n → ((k : ℕ) → k < n → below l m k ≡ true) → m ≡ (product (l ∷ [])).bottom
   below_all-bottom m hm all =

@@ -9,7 +9,6 @@ pub mod SpacedTokens
 pub mod CanonicalTexts
 pub mod CanonicalWords
 pub mod Within
-pub mod Words
 pub mod Writing
 pub mod Facts
 pub mod FileFacts

@@ -18,10 +18,6 @@ behind_cut mark (token ∷ tokens) more h =
     let f = p.1 in
     cc
 
--- a token stands in front of what is behind it
-pub behind_mark : (mark : List ℕ) (tokens : List (List ℕ)) → behind mark (mark ∷ tokens) ≡ Some tokens
-behind_mark mark tokens = rw (bytes_refl mark)
-
 -- what stands behind is shorter
 behind_shorter : (mark : List ℕ) (tokens more : List (List ℕ)) → behind mark tokens ≡ Some more → length more < length tokens
 behind_shorter mark tokens more h = let e = ap length (behind_cut mark tokens more h) in omega arith
@@ -84,10 +80,6 @@ module _ {T : Type 0} (mark : List ℕ) (join : T → T → T) (part : List (Lis
   pub chained_fails : (tokens : List (List ℕ)) → part tokens ≡ None → chained mark join part tokens ≡ None
   unfolding chained
   chained_fails tokens h = rw h
-
-  -- one part and no operator behind it
-  pub chained_alone : (tokens : List (List ℕ)) (f : Front T) → part tokens ≡ Some f → behind mark f.rest ≡ None → chained mark join part tokens ≡ Some f
-  chained_alone tokens f h k = chained_begins tokens f h ∙ chain_ends f.tree f.rest k
 
 -- a reader that is sound leaves no more than it was given
 pub sound_shortens : {T : Type 0} (Spelled : List (List ℕ) → T → Type 0) (reader : List (List ℕ) → Option (Front T)) → IsSound Spelled reader → Shortens reader

@@ -92,9 +92,6 @@ denotes_same : (frame : Frame) (kind : Kind) (a b f g : ℕ → ℕ) → ((s : �
 denotes_same frame kind a b f g same h = record { value = λ s low. sym (same s) ∙ h.value s low }
 
 module _ (frame : Frame) (nodes : List Kind) (ordered : are_ordered_from 0 nodes ≡ true) where
-  step_of : ℕ → (ℕ → ℕ → ℕ) → ℕ → ℕ
-  step_of k d = step_at frame (node_at nodes k) (d (first_child (node_at nodes k))) (d (second_child (node_at nodes k)))
-
   abbrev extended : ℕ → (ℕ → ℕ → ℕ) → ℕ → ℕ → ℕ
   extended k d = with_function d k (step_at frame (node_at nodes k) (d (first_child (node_at nodes k))) (d (second_child (node_at nodes k))))
 

@@ -39,10 +39,6 @@ found_at names name k h =
     let at = some_at m (length names) k (nat_lt m (length names)) refl h in
     ap (name_at names) (sym at.0) ∙ sym (same_bytes name (name_at names m) (passes_at_first (bytes_eq name) names [] at.1))
 
--- the first names of two lists, and the others
-pub same_from : (xs ys : List (List ℕ)) (i : ℕ) → i < length xs → i < length ys → are_same (drop i xs) (drop i ys) ≡ (bytes_eq (get_or xs i []) (get_or ys i []) && are_same (drop (i + 1) xs) (drop (i + 1) ys))
-same_from xs ys i h k = rw (add-one, drop-cons xs i [] h, drop-cons ys i [] k) refl
-
 pub same_lengths : (xs ys : List (List ℕ)) → are_same xs ys ≡ true → length xs ≡ length ys
 same_lengths [] [] h = refl
 same_lengths [] (y ∷ ys) h = cc

@@ -30,10 +30,6 @@ pub none_repeats : repeats [] ≡ false
 unfolding repeats
 none_repeats = refl
 
-pub repeats_is : (settings : List Setting) → repeats settings ≡ sets_twice (map set settings)
-unfolding repeats
-repeats_is settings = refl
-
 -- what is known, with one more
 pub known_more : {X : Type 0} (a : X) (known : List X) (more : Option (List X)) → option_map (λ rest. known ++ rest) (both (λ b rest. b ∷ rest) (Some a) more) ≡ option_map (λ rest. (known ++ a ∷ []) ++ rest) more
 known_more a known None = refl

@@ -29,9 +29,6 @@ pair_of a b = record { low = a; high = b }
 only : (p q : Pair) → Contains (p ∷ []) q → p ≡ q
 only p q h = subst (λ (k : ℕ). get_or (p ∷ []) k q ≡ q) (let e : h.0 ≡ 0 = omega (arith, h.1) in e) h.2
 
-pub rows_none : (l : LatticeData) → ListsRows l 0 []
-rows_none l = record { sound = λ a b h. absurd (omega (arith, h.1)); listed = λ a b ha hb h. absurd (omega arith) }
-
 pub row_none : (l : LatticeData) (row : ℕ) (pairs : List Pair) → ListsRows l row pairs → OnRow l row 0 pairs
 row_none l row pairs h = record { rows = h; begun = λ b hb k. absurd (omega arith) }
 

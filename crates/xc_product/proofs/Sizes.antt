@@ -25,9 +25,6 @@ small_part (T4 table) = omega (arith, table.tells.sized, table.fits, table.small
 small_part (T16 table) = omega (arith, table.tells.sized, table.fits, table.small)
 small_part (T64 table) = omega (arith, table.value.tells.sized, table.value.fits, table.value.small)
 
-pub small_alone : (table : AnyTable) → (alone table).size ≤ 64
-small_alone table = omega (arith, product_size (lattice_in_any table), small_part table)
-
 pub small_sizes : (tables : List AnyTable) (k : ℕ) → get_or (sizes (lattices tables)) k 0 ≤ 64
 small_sizes [] k = omega arith
 small_sizes (t ∷ tables) zero = small_part t

@@ -37,15 +37,8 @@ module _ (d : Draft) (slice : List Statement) (whole : missing_part d.statements
   pub names_are_few : AreFew d.names
   names_are_few = few_of d.names d.same
 
-  pub all_is_known : list_all (is_known d.names) slice ≡ true
-  all_is_known =
-      ap (list_all (is_known d.names)) same ∙ ap (λ (names : Names). list_all (is_known names) d.statements) d.same ∙ d.fair.known
-
   starts : begins slice ≡ true
   starts = ap begins same ∙ d.fair.starts
-
-  pub head_is : (s : Statement) → s ≡ get_or slice 0 s → is_map s ≡ true
-  head_is s e = first_is_map slice s some starts e
 
   -- the parts
   module _ (first : Statement) (first_at : first ≡ get_or slice 0 first)

@@ -192,10 +192,6 @@ module _ (v : MapValue) (sound : is_sound v ≡ true) where
   unfolding is_small
   small_var d h = (and_parts _ _ (and_parts _ _ h).0).1
 
-  small_others : is_small (Map v.name) ≡ true
-  unfolding is_small
-  small_others = refl
-
   all_small : list_all is_small (statements_in v) ≡ true
   unfolding is_small
   all_small =
