@@ -10,8 +10,9 @@ use Rattle.xc_base.specs.Lines.{text_rows}
 use Rattle.xc_base.specs.Words.{is_word, is_name, is_file_word}
 use Rattle.xc_base.specs.Names.{is_among, has_twice, name_at, place_of, are_same}
 use Rattle.xc_base.specs.Canonical.{spaced}
+use Rattle.xc_base.specs.Fronts.{IsFront}
 use Rattle.xc_base.specs.Shelves.{held, has_risen, failed_after, fails_at, raised, IsLoaded, IsAbsentIfSteady}
-use Rattle.xc_base.specs.Sinks.{written_after, IsFront, AddsWhole, AddsPart, after_put, empty_sink}
+use Rattle.xc_base.specs.Sinks.{written_after, AddsWhole, AddsPart, after_put, empty_sink}
 
 -- the texts of the tokens of a text's rows
 abbrev cut : List ℕ → List (List (List ℕ))
