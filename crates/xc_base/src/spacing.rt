@@ -1,4 +1,4 @@
-//! Canonical texts: tokens written out with as few blanks as they can have.
+//! Canonical texts: tokens are written side by side, and a blank parts two words.
 
 ghost use Rattle.std.specs.Prelude.{◌≡◌, ◌<◌, [], ◌∷◌, ◌++◌, length, IfOk, OnOk, OnErr};
 ghost use Rattle.xc_base.specs.Canonical.{spaced, canonical};
