@@ -1,0 +1,62 @@
+-- What follows from the definitions, as statements that public functions carry.
+use Rattle.std.specs.Prelude.{◌≡◌, ◌<◌, ◌≤◌, ◌*◌, ℕ, suc, Bool, true, false}
+use Rattle.xc_alg.specs.Operations.{Operations, IsAlgebra}
+use Rattle.xc_fixpoint.specs.Functions.{IsFunction, Agree, AreBelow}
+use Rattle.xc_fixpoint.specs.Steps.{Step, IsMonotone}
+use Rattle.xc_fixpoint.specs.Fixpoints.{IsLeastFixpoint, IsGreatestFixpoint}
+use Rattle.xc_fixpoint.specs.Iterates.{iterate, AreUnsettled, Settles}
+use Rattle.xc_fixpoint.specs.Heights.{IsHeight}
+
+-- a law of every monotone step of n states, in every algebra
+abbrev pub OfSteps : (Operations → ℕ → Step → Type 0) → Type 0
+OfSteps Law = (o : Operations) → IsAlgebra o → (n : ℕ) (step : Step) → IsMonotone o n step → Law o n step
+
+-- there is a least fixpoint, and a greatest one
+abbrev pub LeastExists : Type 0
+LeastExists = OfSteps (λ o n step. (f : ℕ → ℕ) × IsLeastFixpoint o n step f)
+
+abbrev pub GreatestExists : Type 0
+GreatestExists = OfSteps (λ o n step. (f : ℕ → ℕ) × IsGreatestFixpoint o n step f)
+
+-- and no two that differ at a state
+abbrev pub LeastIsUnique : Type 0
+LeastIsUnique = OfSteps (λ o n step. (f g : ℕ → ℕ) → IsLeastFixpoint o n step f → IsLeastFixpoint o n step g → Agree n f g)
+
+abbrev pub GreatestIsUnique : Type 0
+GreatestIsUnique = OfSteps (λ o n step. (f g : ℕ → ℕ) → IsGreatestFixpoint o n step f → IsGreatestFixpoint o n step g → Agree n f g)
+
+-- a function that the step takes below itself is above the least fixpoint, one that it takes above itself below the greatest
+abbrev pub LeastByInduction : Type 0
+LeastByInduction = OfSteps (λ o n step. (f g : ℕ → ℕ) → IsLeastFixpoint o n step f → IsFunction o n g → AreBelow o n (step g) g → AreBelow o n f g)
+
+abbrev pub GreatestByInduction : Type 0
+GreatestByInduction = OfSteps (λ o n step. (f g : ℕ → ℕ) → IsGreatestFixpoint o n step f → IsFunction o n g → AreBelow o n g (step g) → AreBelow o n g f)
+
+-- each iterate on the way up is below the next one, each on the way down above it
+abbrev pub IteratesRise : Type 0
+IteratesRise = OfSteps (λ o n step. (k : ℕ) → AreBelow o n (iterate o true step k) (iterate o true step (suc k)))
+
+abbrev pub IteratesFall : Type 0
+IteratesFall = OfSteps (λ o n step. (k : ℕ) → AreBelow o n (iterate o false step (suc k)) (iterate o false step k))
+
+-- on each way they settle, at one number
+abbrev pub IteratesSettle : Type 0
+IteratesSettle = OfSteps (λ o n step. (up : Bool) → (k : ℕ) × Settles o up n step k)
+
+abbrev pub IteratesSettleOnce : Type 0
+IteratesSettleOnce = OfSteps (λ o n step. (up : Bool) (j k : ℕ) → Settles o up n step j → Settles o up n step k → j ≡ k)
+
+-- an iterate that agrees with the next one, the first such or a later one, is the least or the greatest fixpoint
+abbrev pub SettledIsLeast : Type 0
+SettledIsLeast = OfSteps (λ o n step. (k : ℕ) → Agree n (iterate o true step k) (iterate o true step (suc k)) → IsLeastFixpoint o n step (iterate o true step k))
+
+abbrev pub SettledIsGreatest : Type 0
+SettledIsGreatest = OfSteps (λ o n step. (k : ℕ) → Agree n (iterate o false step k) (iterate o false step (suc k)) → IsGreatestFixpoint o n step (iterate o false step k))
+
+-- as long as no iterate agrees with the next one there were at most so many steps as states times the height
+abbrev pub UnsettledAreFew : Type 0
+UnsettledAreFew = OfSteps (λ o n step. (up : Bool) (height k : ℕ) → IsHeight o height → AreUnsettled o up n step k → k ≤ n * height)
+
+-- so they settle within that number
+abbrev pub IteratesSettleSoon : Type 0
+IteratesSettleSoon = OfSteps (λ o n step. (up : Bool) (height k : ℕ) → IsHeight o height → Settles o up n step k → k ≤ n * height)

@@ -1,0 +1,6 @@
+pub mod Functions
+pub mod Steps
+pub mod Fixpoints
+pub mod Iterates
+pub mod Heights
+pub mod Laws
