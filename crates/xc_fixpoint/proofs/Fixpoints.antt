@@ -1,11 +1,11 @@
 -- A monotone step has a least and a greatest fixpoint: on each way one extremal fixpoint.
-use Rattle.std.proofs.Common.{ℕ, suc, Bool, subst}
+use Rattle.std.proofs.Common.{ℕ, suc, Bool, sym, ◌∙◌, subst}
 use Rattle.xc_alg.specs.Operations.{Operations, IsAlgebra}
 use Rattle.xc_fixpoint.specs.Functions.{IsFunction, Agree, Before, AreBefore}
 use Rattle.xc_fixpoint.specs.Steps.{Step, IsMonotone}
 use Rattle.xc_fixpoint.specs.Fixpoints.{IsFixpoint, IsExtremal}
 use Rattle.xc_fixpoint.specs.Iterates.{iterate, Settles}
-use Rattle.xc_fixpoint.proofs.Directions.{are_before_antisymmetric, are_before_transitive, agree-before, agree-function}
+use Rattle.xc_fixpoint.proofs.Directions.{are_before_antisymmetric, agree-function, step_keeps_agree}
 use Rattle.xc_fixpoint.proofs.Iterates.{iterate_in_range, iterate_by_induction, settled_is_extremal}
 use Rattle.xc_fixpoint.proofs.Settling.{iterates_settle}
 
@@ -29,3 +29,19 @@ module _ (o : Operations) (laws : IsAlgebra o) (up : Bool) (n : ℕ) (step : Ste
       let settles = iterates_settle o laws up n step monotone in
       let same = extremal_is_settled settles.0 f settles.1.settled hf in
       λ s low. subst (λ (x : ℕ). Before o up x (g s)) (same s low) (iterate_by_induction o laws up n step monotone settles.0 g hg h s low)
+
+  -- the extremal fixpoint of another step that is further on the way stands after it
+  pub extremal_moves_on : (further : Step) (f g : ℕ → ℕ) → ((h : ℕ → ℕ) → IsFunction o n h → AreBefore o up n (step h) (further h)) → IsExtremal o up n step f → IsExtremal o up n further g → AreBefore o up n f g
+  extremal_moves_on further f g moves hf hg =
+      let within = hg.fixpoint.in_range in
+      extremal_by_induction f g hf within (λ s low. subst (λ (x : ℕ). Before o up (step g s) x) (sym (hg.fixpoint.fixed s low)) (moves g within s low))
+
+  -- what agrees with the extremal fixpoint is it
+  pub agree-extremal : (f g : ℕ → ℕ) → Agree n f g → IsExtremal o up n step f → IsExtremal o up n step g
+  agree-extremal f g same hf =
+      let within = agree-function o n f g same hf.fixpoint.in_range in
+      let stepped = step_keeps_agree o laws n step monotone f g hf.fixpoint.in_range within same in
+      record {
+        fixpoint = record { in_range = within; fixed = λ s low. sym (same s low) ∙ (hf.fixpoint.fixed s low ∙ stepped s low) };
+        first = λ h is s low. subst (λ (x : ℕ). Before o up x (h s)) (same s low) (hf.first h is s low);
+      }

@@ -4,3 +4,6 @@ pub mod Chains
 pub mod Changes
 pub mod Settling
 pub mod Fixpoints
+pub mod Lists
+pub mod PairHeights
+pub mod ProductHeights

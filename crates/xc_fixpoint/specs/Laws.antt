@@ -1,11 +1,16 @@
 -- What follows from the definitions, as statements that public functions carry.
-use Rattle.std.specs.Prelude.{◌≡◌, ◌<◌, ◌≤◌, ◌*◌, ℕ, suc, Bool, true, false}
+use Rattle.std.specs.Prelude.{◌≡◌, ◌<◌, ◌≤◌, ◌*◌, ℕ, suc, Bool, true, false, List}
+use Rattle.std.specs.List.{sum}
+use Rattle.xc_theory.specs.Lattices.{LatticeData}
 use Rattle.xc_alg.specs.Operations.{Operations, IsAlgebra}
+use Rattle.xc_alg.specs.Products.{product, AreLawful}
+use Rattle.xc_product.specs.Heights.{AreHeights}
 use Rattle.xc_fixpoint.specs.Functions.{IsFunction, Agree, AreBelow}
-use Rattle.xc_fixpoint.specs.Steps.{Step, IsMonotone}
-use Rattle.xc_fixpoint.specs.Fixpoints.{IsLeastFixpoint, IsGreatestFixpoint}
+use Rattle.xc_fixpoint.specs.Steps.{Step, IsMonotone, IsStepBelow}
+use Rattle.xc_fixpoint.specs.Fixpoints.{IsExtremal, IsLeastFixpoint, IsGreatestFixpoint}
 use Rattle.xc_fixpoint.specs.Iterates.{iterate, AreUnsettled, Settles}
 use Rattle.xc_fixpoint.specs.Heights.{IsHeight}
+use Rattle.xc_fixpoint.specs.Lists.{values, IsExtremalList}
 
 -- a law of every monotone step of n states, in every algebra
 abbrev pub OfSteps : (Operations → ℕ → Step → Type 0) → Type 0
@@ -60,3 +65,25 @@ UnsettledAreFew = OfSteps (λ o n step. (up : Bool) (height k : ℕ) → IsHeigh
 -- so they settle within that number
 abbrev pub IteratesSettleSoon : Type 0
 IteratesSettleSoon = OfSteps (λ o n step. (up : Bool) (height k : ℕ) → IsHeight o height → Settles o up n step k → k ≤ n * height)
+
+-- of a step that is below another the least fixpoint is below the other's, and so is the greatest
+abbrev pub LeastGrows : Type 0
+LeastGrows = OfSteps (λ o n step. (larger : Step) (f g : ℕ → ℕ) → IsStepBelow o n step larger → IsLeastFixpoint o n step f → IsLeastFixpoint o n larger g → AreBelow o n f g)
+
+abbrev pub GreatestGrows : Type 0
+GreatestGrows = OfSteps (λ o n step. (smaller : Step) (f g : ℕ → ℕ) → IsStepBelow o n smaller step → IsGreatestFixpoint o n smaller f → IsGreatestFixpoint o n step g → AreBelow o n f g)
+
+-- a function is the least, or the greatest, fixpoint exactly where the list of its values is that among lists
+abbrev pub ExtremalAsList : Type 0
+ExtremalAsList = OfSteps (λ o n step. (up : Bool) (f : ℕ → ℕ) → IsExtremal o up n step f → IsExtremalList o up n step (values n f))
+
+abbrev pub ListAsExtremal : Type 0
+ListAsExtremal = OfSteps (λ o n step. (up : Bool) (f : ℕ → ℕ) → IsExtremalList o up n step (values n f) → IsExtremal o up n step f)
+
+-- an algebra has one height
+abbrev pub HeightsAreUnique : Type 0
+HeightsAreUnique = (o : Operations) (height other : ℕ) → IsHeight o height → IsHeight o other → height ≡ other
+
+-- the height of a product is the sum of the heights of its parts
+abbrev pub HeightsOfProducts : Type 0
+HeightsOfProducts = (parts : List LatticeData) (heights : List ℕ) → AreLawful parts → AreHeights parts heights → IsHeight (product parts) (sum heights)

@@ -1,7 +1,7 @@
 use Rattle.std.proofs.Common.{true, false}
 use Rattle.xc_fixpoint.proofs.Iterates.{iterate_before_next, settled_is_extremal}
 use Rattle.xc_fixpoint.proofs.Settling.{iterates_settle, settles_once}
-use Rattle.xc_fixpoint.proofs.iteration.Goals as goal
+use Rattle.xc_fixpoint.proofs.laws.iterates_settle.Goals as goal
 
 pub returns-clause-rise : goal.returns-clause-rise
 returns-clause-rise c = λ o laws n step monotone. iterate_before_next o laws true n step monotone

@@ -1,5 +1,5 @@
 use Rattle.xc_fixpoint.proofs.Settling.{unsettled_are_few, settles_soon}
-use Rattle.xc_fixpoint.proofs.number_of_iterates.Goals as goal
+use Rattle.xc_fixpoint.proofs.laws.iterates_settle_soon.Goals as goal
 
 pub returns-clause-unsettled : goal.returns-clause-unsettled
 returns-clause-unsettled c = λ o laws n step monotone up. unsettled_are_few o laws up n step monotone

@@ -1,6 +1,6 @@
 use Rattle.std.proofs.Common.{true, false}
 use Rattle.xc_fixpoint.proofs.Fixpoints.{extremal_exists, extremal_is_unique}
-use Rattle.xc_fixpoint.proofs.extremal_fixpoints.Goals as goal
+use Rattle.xc_fixpoint.proofs.laws.extremal_fixpoints.Goals as goal
 
 pub returns-clause-least_exists : goal.returns-clause-least_exists
 returns-clause-least_exists c = λ o laws n step monotone. extremal_exists o laws true n step monotone
