@@ -1,5 +1,5 @@
--- A chain has no more steps than the algebra has elements.
-use Rattle.std.proofs.Common.{◌≡◌, ◌≢◌, ℕ, zero, suc, ◌+◌, ◌<◌, ◌≤◌, Bool, true, false, cond, List, [], ◌∷◌, length, inl, inr, refl, sym, subst, arith}
+-- A chain has no more elements than the algebra.
+use Rattle.std.proofs.Common.{◌≡◌, ◌≢◌, ℕ, zero, suc, ◌+◌, ◌<◌, ◌≤◌, Bool, true, false, cond, List, [], ◌∷◌, length, inl, inr, refl, subst, arith}
 use Rattle.std.proofs.lemmas.Bool.{cases_Bool, cases_eq}
 use Rattle.xc_alg.specs.Operations.{Operations, IsAlgebra}
 use Rattle.xc_fixpoint.specs.Heights.{IsChain}
@@ -37,6 +37,14 @@ passing_one_more p q (suc m) j h low off on =
           omega (arith, passing_one_more p q m j (λ i below. h i (omega arith)) (omega arith) off on, weaker_choice (p m) (q m) (h m (omega arith)))
     ]
 
+passing_some : (p : ℕ → Bool) (m j : ℕ) → j < m → p j ≡ true → 0 < passing p m
+passing_some p zero j low on = absurd (omega arith)
+passing_some p (suc m) j low on =
+    elim (cases_eq j m) [
+      | inl same ↦ let on' : p m ≡ true = subst (λ (x : ℕ). p x ≡ true) same on in rw on' (omega arith)
+      | inr other ↦ omega (arith, passing_some p m j (omega arith) on)
+    ]
+
 pub chain_head : (o : Operations) (x : ℕ) (xs : List ℕ) → IsChain o (x ∷ xs) → x < o.size
 chain_head o x [] h = h
 chain_head o x (y ∷ rest) h = h.0
@@ -54,10 +62,13 @@ module _ (o : Operations) (laws : IsAlgebra o) where
             passing_one_more (λ c. o.below c a) (λ c. o.below c b) o.size b (λ c hc below. laws.transitive c a b hc ha hb below h) hb off (laws.reflexive b hb)
       ]
 
+  rank_positive : (a : ℕ) → a < o.size → 0 < rank a
+  rank_positive a ha = passing_some (λ b. o.below b a) o.size a ha (laws.reflexive a ha)
+
   chain_climbs : (x : ℕ) (xs : List ℕ) → IsChain o (x ∷ xs) → length xs + rank x ≤ o.size
   chain_climbs x [] h = omega (arith, passing-le (λ b. o.below b x) o.size)
   chain_climbs x (y ∷ rest) h = omega (arith, chain_climbs y rest h.3, rank_grows x y h.0 (chain_head o y rest h.3) h.1 h.2)
 
-  pub chain_fits : (xs : List ℕ) → IsChain o xs → length xs ≤ o.size + 1
+  pub chain_fits : (xs : List ℕ) → IsChain o xs → length xs ≤ o.size
   chain_fits [] h = omega arith
-  chain_fits (x ∷ xs) h = omega (arith, chain_climbs x xs h)
+  chain_fits (x ∷ xs) h = omega (arith, chain_climbs x xs h, rank_positive x (chain_head o x xs h))

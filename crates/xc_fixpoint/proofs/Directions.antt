@@ -1,5 +1,5 @@
--- Each way through an algebra is an order, of elements and of functions.
-use Rattle.std.proofs.Common.{◌≡◌, ℕ, ◌<◌, Bool, true, false, refl, sym, subst}
+-- In each direction elements, and functions, are in an order.
+use Rattle.std.proofs.Common.{◌≡◌, ℕ, ◌<◌, Bool, true, false, sym, subst}
 use Rattle.xc_alg.specs.Operations.{Operations, IsAlgebra}
 use Rattle.xc_fixpoint.specs.Functions.{IsFunction, Agree, Before, AreBefore}
 use Rattle.xc_fixpoint.specs.Steps.{Step, IsMonotone}
@@ -32,11 +32,11 @@ module _ (o : Operations) (laws : IsAlgebra o) where
   pub are_before_antisymmetric : (up : Bool) (n : ℕ) (f g : ℕ → ℕ) → IsFunction o n f → IsFunction o n g → AreBefore o up n f g → AreBefore o up n g f → Agree n f g
   are_before_antisymmetric up n f g hf hg p q s low = before_antisymmetric up (f s) (g s) (hf s low) (hg s low) (p s low) (q s low)
 
-  -- functions that agree stand before each other
+  -- functions that agree come before each other
   pub agree-before : (up : Bool) (n : ℕ) (f g : ℕ → ℕ) → IsFunction o n f → Agree n f g → AreBefore o up n f g
   agree-before up n f g hf same s low = subst (λ (x : ℕ). Before o up (f s) x) (same s low) (before_reflexive up (f s) (hf s low))
 
-  -- a step keeps the order on each way, and so depends on the values at the states alone
+  -- a step keeps the order in each direction, and so depends on the values at the states alone
   pub step_keeps_before : (up : Bool) (n : ℕ) (step : Step) → IsMonotone o n step → (f g : ℕ → ℕ) → IsFunction o n f → IsFunction o n g → AreBefore o up n f g → AreBefore o up n (step f) (step g)
   step_keeps_before true n step monotone f g hf hg h = monotone.larger f g hf hg h
   step_keeps_before false n step monotone f g hf hg h = monotone.larger g f hg hf h
@@ -47,6 +47,6 @@ module _ (o : Operations) (laws : IsAlgebra o) where
       (monotone.larger f g hf hg (agree-before true n f g hf same))
       (monotone.larger g f hg hf (agree-before true n g f hg (λ s low. sym (same s low))))
 
--- functions that agree with an element's value are functions
+-- what agrees with a function is one
 pub agree-function : (o : Operations) (n : ℕ) (f g : ℕ → ℕ) → Agree n f g → IsFunction o n f → IsFunction o n g
 agree-function o n f g same hf s low = subst (λ (x : ℕ). x < o.size) (same s low) (hf s low)

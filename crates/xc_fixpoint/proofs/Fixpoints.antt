@@ -1,12 +1,12 @@
--- A monotone step has a least and a greatest fixpoint: on each way one extremal fixpoint.
+-- A monotone step has a least and a greatest fixpoint: in each direction one extremal fixpoint.
 use Rattle.std.proofs.Common.{ℕ, suc, Bool, sym, ◌∙◌, subst}
 use Rattle.xc_alg.specs.Operations.{Operations, IsAlgebra}
 use Rattle.xc_fixpoint.specs.Functions.{IsFunction, Agree, Before, AreBefore}
 use Rattle.xc_fixpoint.specs.Steps.{Step, IsMonotone}
-use Rattle.xc_fixpoint.specs.Fixpoints.{IsFixpoint, IsExtremal}
-use Rattle.xc_fixpoint.specs.Iterates.{iterate, Settles}
+use Rattle.xc_fixpoint.specs.Fixpoints.{IsExtremal}
+use Rattle.xc_fixpoint.specs.Iterates.{iterate}
 use Rattle.xc_fixpoint.proofs.Directions.{are_before_antisymmetric, agree-function, step_keeps_agree}
-use Rattle.xc_fixpoint.proofs.Iterates.{iterate_in_range, iterate_by_induction, settled_is_extremal}
+use Rattle.xc_fixpoint.proofs.Iterates.{iterate_by_induction, settled_is_extremal}
 use Rattle.xc_fixpoint.proofs.Settling.{iterates_settle}
 
 -- no two differ at a state
@@ -23,18 +23,18 @@ module _ (o : Operations) (laws : IsAlgebra o) (up : Bool) (n : ℕ) (step : Ste
   pub extremal_is_settled : (k : ℕ) (f : ℕ → ℕ) → Agree n (iterate o up step k) (iterate o up step (suc k)) → IsExtremal o up n step f → Agree n (iterate o up step k) f
   extremal_is_settled k f same hf = extremal_is_unique o laws up n step (iterate o up step k) f (settled_is_extremal o laws up n step monotone k same) hf
 
-  -- the extremal fixpoint stands before each function that the step takes before itself
+  -- the extremal fixpoint comes before each function that the step takes before itself
   pub extremal_by_induction : (f g : ℕ → ℕ) → IsExtremal o up n step f → IsFunction o n g → AreBefore o up n (step g) g → AreBefore o up n f g
   extremal_by_induction f g hf hg h =
       let settles = iterates_settle o laws up n step monotone in
       let same = extremal_is_settled settles.0 f settles.1.settled hf in
       λ s low. subst (λ (x : ℕ). Before o up x (g s)) (same s low) (iterate_by_induction o laws up n step monotone settles.0 g hg h s low)
 
-  -- the extremal fixpoint of another step that is further on the way stands after it
-  pub extremal_moves_on : (further : Step) (f g : ℕ → ℕ) → ((h : ℕ → ℕ) → IsFunction o n h → AreBefore o up n (step h) (further h)) → IsExtremal o up n step f → IsExtremal o up n further g → AreBefore o up n f g
-  extremal_moves_on further f g moves hf hg =
+  -- it comes before the extremal fixpoint of a step that goes further
+  pub extremal_comes_before : (further : Step) (f g : ℕ → ℕ) → ((h : ℕ → ℕ) → IsFunction o n h → AreBefore o up n (step h) (further h)) → IsExtremal o up n step f → IsExtremal o up n further g → AreBefore o up n f g
+  extremal_comes_before further f g goes hf hg =
       let within = hg.fixpoint.in_range in
-      extremal_by_induction f g hf within (λ s low. subst (λ (x : ℕ). Before o up (step g s) x) (sym (hg.fixpoint.fixed s low)) (moves g within s low))
+      extremal_by_induction f g hf within (λ s low. subst (λ (x : ℕ). Before o up (step g s) x) (sym (hg.fixpoint.fixed s low)) (goes g within s low))
 
   -- what agrees with the extremal fixpoint is it
   pub agree-extremal : (f g : ℕ → ℕ) → Agree n f g → IsExtremal o up n step f → IsExtremal o up n step g

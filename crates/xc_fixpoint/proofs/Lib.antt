@@ -4,6 +4,8 @@ pub mod Chains
 pub mod Changes
 pub mod Settling
 pub mod Fixpoints
+pub mod SameSteps
 pub mod Lists
 pub mod PairHeights
 pub mod ProductHeights
+pub mod Facts

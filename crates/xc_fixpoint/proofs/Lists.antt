@@ -1,5 +1,5 @@
 -- A function is an extremal fixpoint exactly where the list of its values is that among lists.
-use Rattle.std.proofs.Common.{◌≡◌, ℕ, zero, suc, ◌+◌, ◌<◌, ◌≤◌, Bool, List, [], ◌∷◌, length, map, get_or, slice_index, refl, sym, ap, subst, ◌∙◌, arith}
+use Rattle.std.proofs.Common.{◌≡◌, ℕ, zero, suc, ◌+◌, ◌<◌, ◌≤◌, Bool, List, [], ◌∷◌, length, map, slice_index, refl, sym, ap, subst, ◌∙◌, arith}
 use Rattle.std.specs.List.{range_with_len}
 use Rattle.std.proofs.lemmas.List.FromFn.{length-map-range_with_len, get_or-map-range_with_len, fill_by_all}
 use Rattle.xc_alg.specs.Operations.{Operations, IsAlgebra}
@@ -42,7 +42,7 @@ element_at size (x ∷ xs) (suc s) h low = element_at size xs s h.1 (omega arith
 pub list_is_function : (o : Operations) (n : ℕ) (xs : List ℕ) → length xs ≡ n → AreElements o.size xs → IsFunction o n (slice_index xs)
 list_is_function o n xs sized h s low = element_at o.size xs s h (omega arith)
 
--- lists stand before each other where their functions do
+-- lists come before each other where their functions do
 pub lists_before : (o : Operations) (up : Bool) (n : ℕ) (xs ys : List ℕ) → length xs ≡ n → length ys ≡ n → AreBefore o up n (slice_index xs) (slice_index ys) → AreListsBefore o up xs ys
 lists_before o up n [] [] hx hy h = tt
 lists_before o up n [] (y ∷ ys) hx hy h = absurd (omega arith)
@@ -97,3 +97,7 @@ module _ (o : Operations) (laws : IsAlgebra o) (n : ℕ) (step : Step) (monotone
             let before = before_of_lists o up (values n f) (values n g) s (h.first (values n g) (list_of_fixpoint g is)) (omega (arith, length-values n f)) in
             subst (λ (x : ℕ). Before o up x (g s)) (value_at n f s low) (subst (λ (x : ℕ). Before o up (slice_index (values n f) s) x) (value_at n g s low) before);
       }
+
+  -- and for any list
+  pub extremal_in_list : (up : Bool) (xs : List ℕ) → IsExtremalList o up n step xs → IsExtremal o up n step (slice_index xs)
+  extremal_in_list up xs h = extremal_of_list up (slice_index xs) (subst (λ (ys : List ℕ). IsExtremalList o up n step ys) (sym (values_of_list n xs h.fixpoint.sized)) h)

@@ -1,5 +1,5 @@
 -- The height of a pair of algebras is the sum of their heights.
-use Rattle.std.proofs.Common.{◌≡◌, ◌≢◌, ℕ, suc, ◌+◌, ◌*◌, ◌/◌, ◌%◌, ◌<◌, ◌≤◌, true, ◌&&◌, List, [], ◌∷◌, length, inl, inr, refl, sym, ap, subst, ◌∙◌, arith}
+use Rattle.std.proofs.Common.{◌≡◌, ◌≢◌, ℕ, suc, ◌+◌, ◌*◌, ◌/◌, ◌%◌, ◌<◌, ◌≤◌, true, List, [], ◌∷◌, length, inl, inr, refl, sym, ap, subst, ◌∙◌, arith}
 use Rattle.std.proofs.lemmas.Bool.{and_parts, and_from, cases_eq}
 use Rattle.std.proofs.lemmas.Nat.{div-mul-add, mod-mul-add, mul-add-lt, div-add-mod', div_below, mod_below}
 use Rattle.std.proofs.Math.Nat.{mul_comm}
@@ -58,8 +58,7 @@ module _ (p q : Operations) (lp : IsAlgebra p) (lq : IsAlgebra q) where
   row_chain : (x y : ℕ) (ys : List ℕ) → x < p.size → IsChain q (y ∷ ys) → (zs : List ℕ) × IsChain (pair p q) ((x * q.size + y) ∷ zs) × (length zs ≡ length ys)
   row_chain x y [] hx h = ([], place x y hx h, refl)
   row_chain x y (next ∷ rest) hx h =
-      let later = row_chain x next rest hx h.3 in
-      (
+      let later = row_chain x next rest hx h.3 in (
         (x * q.size + next) ∷ later.0,
         (place x y hx h.0, below_place x y x next h.0 (chain_head q next rest h.3) (lp.reflexive x hx) h.1, (λ e. h.2 (omega (arith, e))), later.1),
         ap suc later.2,
@@ -69,8 +68,7 @@ module _ (p q : Operations) (lp : IsAlgebra p) (lq : IsAlgebra q) where
   grid_chain x [] y ys h k = let row = row_chain x y ys h k in (row.0, row.1, omega (arith, row.2))
   grid_chain x (next ∷ rest) y ys h k =
       let later = grid_chain next rest y ys h.3 k in
-      let hy = chain_head q y ys k in
-      (
+      let hy = chain_head q y ys k in (
         (next * q.size + y) ∷ later.0,
         (place x y h.0 hy, below_place x y next y hy hy h.1 (lq.reflexive y hy), (λ e. h.2 (same_high q.size x next y hy e)), later.1),
         omega (arith, later.2),

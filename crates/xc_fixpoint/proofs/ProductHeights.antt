@@ -1,5 +1,5 @@
 -- An algebra has one height, and that of a product is the sum of the heights of its parts.
-use Rattle.std.proofs.Common.{◌≡◌, ℕ, ◌+◌, ◌≤◌, List, [], ◌∷◌, length, refl, sym, subst, arith}
+use Rattle.std.proofs.Common.{◌≡◌, ℕ, ◌≤◌, List, [], ◌∷◌, length, refl, sym, subst, arith}
 use Rattle.std.specs.List.{sum}
 use Rattle.std.proofs.lemmas.List.Sums.{sum_by-cons}
 use Rattle.xc_theory.specs.Chains as tables
@@ -16,7 +16,7 @@ pub height_is_unique : (o : Operations) (height other : ℕ) → IsHeight o heig
 height_is_unique o height other h k = omega (arith, h.reached, k.reached, h.greatest k.chain k.is_chain, k.greatest h.chain h.is_chain)
 
 -- a chain of the order of a lattice is one of its algebra
-chain_of_part : (l : LatticeData) (xs : List ℕ) → tables.IsChain l.order xs → IsChain (single l) xs
+pub chain_of_part : (l : LatticeData) (xs : List ℕ) → tables.IsChain l.order xs → IsChain (single l) xs
 chain_of_part l [] h = tt
 chain_of_part l (x ∷ []) h = h
 chain_of_part l (x ∷ y ∷ rest) h = (h.0, h.1, h.2, chain_of_part l (y ∷ rest) h.3)

@@ -9,7 +9,7 @@ pub record IsFixpoint (o : Operations) (n : ℕ) (step : Step) (f : ℕ → ℕ)
   pub in_range : IsFunction o n f
   pub fixed : Agree n f (step f)
 
--- the fixpoint that stands before every fixpoint on the way
+-- the fixpoint that comes before every fixpoint: going up the least one, going down the greatest
 pub record IsExtremal (o : Operations) (up : Bool) (n : ℕ) (step : Step) (f : ℕ → ℕ) : Type 0 where
   pub fixpoint : IsFixpoint o n step f
   pub first : (g : ℕ → ℕ) → IsFixpoint o n step g → AreBefore o up n f g

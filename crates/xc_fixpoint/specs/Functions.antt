@@ -11,12 +11,12 @@ IsFunction o n f = (s : ℕ) → s < n → f s < o.size
 abbrev pub Agree : ℕ → (ℕ → ℕ) → (ℕ → ℕ) → Type 0
 Agree n f g = (s : ℕ) → s < n → f s ≡ g s
 
--- the way up leads from an element to those above it, the way down to those below it: a stands before b on the way
+-- a comes before b: going up where it is below b, going down where it is above b
 abbrev pub Before : Operations → Bool → ℕ → ℕ → Type 0
 Before o true a b = o.below a b ≡ true
 Before o false a b = o.below b a ≡ true
 
--- at each state f stands before g on the way
+-- f comes before g: at each state
 abbrev pub AreBefore : Operations → Bool → ℕ → (ℕ → ℕ) → (ℕ → ℕ) → Type 0
 AreBefore o up n f g = (s : ℕ) → s < n → Before o up (f s) (g s)
 

@@ -1,10 +1,10 @@
--- The iterates of a step: from the bottom on the way up, from the top on the way down.
+-- The iterates of a step: going up from the bottom, going down from the top.
 use Rattle.std.specs.Prelude.{ℕ, zero, suc, ◌<◌, Bool, true, false}
 use Rattle.xc_alg.specs.Operations.{Operations}
 use Rattle.xc_fixpoint.specs.Functions.{Agree}
 use Rattle.xc_fixpoint.specs.Steps.{Step}
 
--- where the way begins
+-- where they begin
 abbrev pub start : Operations → Bool → ℕ
 start o true = o.bottom
 start o false = o.top
@@ -21,4 +21,4 @@ AreUnsettled o up n step k = (j : ℕ) → j < k → Agree n (iterate o up step 
 -- k is the least number whose iterate agrees with the next one
 pub record Settles (o : Operations) (up : Bool) (n : ℕ) (step : Step) (k : ℕ) : Type 0 where
   pub settled : Agree n (iterate o up step k) (iterate o up step (suc k))
-  pub least : AreUnsettled o up n step k
+  pub unsettled : AreUnsettled o up n step k

@@ -1,5 +1,5 @@
 -- What follows from the definitions, as statements that public functions carry.
-use Rattle.std.specs.Prelude.{◌≡◌, ◌<◌, ◌≤◌, ◌*◌, ℕ, suc, Bool, true, false, List}
+use Rattle.std.specs.Prelude.{◌≡◌, ◌≤◌, ◌*◌, ℕ, suc, Bool, true, false, List}
 use Rattle.std.specs.List.{sum}
 use Rattle.xc_theory.specs.Lattices.{LatticeData}
 use Rattle.xc_alg.specs.Operations.{Operations, IsAlgebra}
@@ -37,14 +37,14 @@ LeastByInduction = OfSteps (λ o n step. (f g : ℕ → ℕ) → IsLeastFixpoint
 abbrev pub GreatestByInduction : Type 0
 GreatestByInduction = OfSteps (λ o n step. (f g : ℕ → ℕ) → IsGreatestFixpoint o n step f → IsFunction o n g → AreBelow o n g (step g) → AreBelow o n g f)
 
--- each iterate on the way up is below the next one, each on the way down above it
+-- going up each iterate is below the next one, going down above it
 abbrev pub IteratesRise : Type 0
 IteratesRise = OfSteps (λ o n step. (k : ℕ) → AreBelow o n (iterate o true step k) (iterate o true step (suc k)))
 
 abbrev pub IteratesFall : Type 0
 IteratesFall = OfSteps (λ o n step. (k : ℕ) → AreBelow o n (iterate o false step (suc k)) (iterate o false step k))
 
--- on each way they settle, at one number
+-- in both directions they settle, at one number
 abbrev pub IteratesSettle : Type 0
 IteratesSettle = OfSteps (λ o n step. (up : Bool) → (k : ℕ) × Settles o up n step k)
 
@@ -57,6 +57,10 @@ SettledIsLeast = OfSteps (λ o n step. (k : ℕ) → Agree n (iterate o true ste
 
 abbrev pub SettledIsGreatest : Type 0
 SettledIsGreatest = OfSteps (λ o n step. (k : ℕ) → Agree n (iterate o false step k) (iterate o false step (suc k)) → IsGreatestFixpoint o n step (iterate o false step k))
+
+-- and all iterates after it agree with it
+abbrev pub SettledStays : Type 0
+SettledStays = OfSteps (λ o n step. (up : Bool) (k later : ℕ) → k ≤ later → Agree n (iterate o up step k) (iterate o up step (suc k)) → Agree n (iterate o up step k) (iterate o up step later))
 
 -- as long as no iterate agrees with the next one there were at most so many steps as states times the height
 abbrev pub UnsettledAreFew : Type 0

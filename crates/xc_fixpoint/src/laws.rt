@@ -3,7 +3,7 @@ ghost use Rattle.xc_fixpoint.specs.Laws.{LeastExists, GreatestExists, LeastIsUni
 ghost use Rattle.xc_fixpoint.specs.Laws.{LeastByInduction, GreatestByInduction};
 ghost use Rattle.xc_fixpoint.specs.Laws.{LeastGrows, GreatestGrows};
 ghost use Rattle.xc_fixpoint.specs.Laws.{IteratesRise, IteratesFall, IteratesSettle, IteratesSettleOnce};
-ghost use Rattle.xc_fixpoint.specs.Laws.{SettledIsLeast, SettledIsGreatest};
+ghost use Rattle.xc_fixpoint.specs.Laws.{SettledIsLeast, SettledIsGreatest, SettledStays};
 ghost use Rattle.xc_fixpoint.specs.Laws.{UnsettledAreFew, IteratesSettleSoon};
 ghost use Rattle.xc_fixpoint.specs.Laws.{ExtremalAsList, ListAsExtremal};
 
@@ -36,6 +36,7 @@ pub fn iterates_settle()
     ensures settle_once { IteratesSettleOnce }
     ensures least { SettledIsLeast }
     ensures greatest { SettledIsGreatest }
+    ensures stay { SettledStays }
 {}
 
 /// They settle at a number that is at most that of the states, times the height of the algebra.

@@ -1,6 +1,6 @@
 use Rattle.std.proofs.Common.{true, false}
 use Rattle.xc_fixpoint.proofs.Iterates.{iterate_before_next, settled_is_extremal}
-use Rattle.xc_fixpoint.proofs.Settling.{iterates_settle, settles_once}
+use Rattle.xc_fixpoint.proofs.Settling.{iterates_settle, settles_once, settled_stays}
 use Rattle.xc_fixpoint.proofs.laws.iterates_settle.Goals as goal
 
 pub returns-clause-rise : goal.returns-clause-rise
@@ -20,3 +20,6 @@ returns-clause-least c = λ o laws n step monotone. settled_is_extremal o laws t
 
 pub returns-clause-greatest : goal.returns-clause-greatest
 returns-clause-greatest c = λ o laws n step monotone. settled_is_extremal o laws false n step monotone
+
+pub returns-clause-stay : goal.returns-clause-stay
+returns-clause-stay c = λ o laws n step monotone up. settled_stays o laws up n step monotone
