@@ -6,6 +6,7 @@ pub mod Settling
 pub mod Fixpoints
 pub mod SameSteps
 pub mod Lists
+pub mod MonotoneSteps
 pub mod PairHeights
 pub mod ProductHeights
 pub mod Facts

@@ -30,6 +30,10 @@ LeastIsUnique = OfSteps (λ o n step. (f g : ℕ → ℕ) → IsLeastFixpoint o 
 abbrev pub GreatestIsUnique : Type 0
 GreatestIsUnique = OfSteps (λ o n step. (f g : ℕ → ℕ) → IsGreatestFixpoint o n step f → IsGreatestFixpoint o n step g → Agree n f g)
 
+-- what agrees with one is it
+abbrev pub AgreeingIsExtremal : Type 0
+AgreeingIsExtremal = OfSteps (λ o n step. (up : Bool) (f g : ℕ → ℕ) → Agree n f g → IsExtremal o up n step f → IsExtremal o up n step g)
+
 -- a function that the step takes below itself is above the least fixpoint, one that it takes above itself below the greatest
 abbrev pub LeastByInduction : Type 0
 LeastByInduction = OfSteps (λ o n step. (f g : ℕ → ℕ) → IsLeastFixpoint o n step f → IsFunction o n g → AreBelow o n (step g) g → AreBelow o n f g)
@@ -62,11 +66,11 @@ SettledIsGreatest = OfSteps (λ o n step. (k : ℕ) → Agree n (iterate o false
 abbrev pub SettledStays : Type 0
 SettledStays = OfSteps (λ o n step. (up : Bool) (k later : ℕ) → k ≤ later → Agree n (iterate o up step k) (iterate o up step (suc k)) → Agree n (iterate o up step k) (iterate o up step later))
 
--- as long as no iterate agrees with the next one there were at most so many steps as states times the height
+-- while none of the first k iterates agrees with the next one, k is at most the number of states times the height
 abbrev pub UnsettledAreFew : Type 0
 UnsettledAreFew = OfSteps (λ o n step. (up : Bool) (height k : ℕ) → IsHeight o height → AreUnsettled o up n step k → k ≤ n * height)
 
--- so they settle within that number
+-- so the iterates settle at no larger number
 abbrev pub IteratesSettleSoon : Type 0
 IteratesSettleSoon = OfSteps (λ o n step. (up : Bool) (height k : ℕ) → IsHeight o height → Settles o up n step k → k ≤ n * height)
 

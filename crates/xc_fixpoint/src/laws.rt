@@ -1,5 +1,5 @@
 //! Laws of the definitions in `specs/`, each carried by a function with an empty body.
-ghost use Rattle.xc_fixpoint.specs.Laws.{LeastExists, GreatestExists, LeastIsUnique, GreatestIsUnique};
+ghost use Rattle.xc_fixpoint.specs.Laws.{LeastExists, GreatestExists, LeastIsUnique, GreatestIsUnique, AgreeingIsExtremal};
 ghost use Rattle.xc_fixpoint.specs.Laws.{LeastByInduction, GreatestByInduction};
 ghost use Rattle.xc_fixpoint.specs.Laws.{LeastGrows, GreatestGrows};
 ghost use Rattle.xc_fixpoint.specs.Laws.{IteratesRise, IteratesFall, IteratesSettle, IteratesSettleOnce};
@@ -7,12 +7,13 @@ ghost use Rattle.xc_fixpoint.specs.Laws.{SettledIsLeast, SettledIsGreatest, Sett
 ghost use Rattle.xc_fixpoint.specs.Laws.{UnsettledAreFew, IteratesSettleSoon};
 ghost use Rattle.xc_fixpoint.specs.Laws.{ExtremalAsList, ListAsExtremal};
 
-/// A monotone step has one least and one greatest fixpoint.
+/// A monotone step has one least and one greatest fixpoint: no two differ at a state, and what agrees with it is it.
 pub fn extremal_fixpoints()
     ensures least_exists { LeastExists }
     ensures greatest_exists { GreatestExists }
     ensures least_is_unique { LeastIsUnique }
     ensures greatest_is_unique { GreatestIsUnique }
+    ensures agreeing { AgreeingIsExtremal }
 {}
 
 /// What a monotone step takes below itself is above the least fixpoint, and what it takes above itself below the greatest.
