@@ -1,8 +1,8 @@
 -- Steps that are made of monotone steps by the operations are monotone.
-use Rattle.std.proofs.Common.{◌≡◌, ℕ, zero, suc, ◌+◌, ◌<◌, ◌≤◌, true, List, map, arith}
+use Rattle.std.proofs.Common.{◌≡◌, ℕ, zero, suc, ◌+◌, ◌<◌, ◌≤◌, true, map, arith}
 use Rattle.std.specs.List.{range_with_len}
 use Rattle.xc_alg.specs.Operations.{Operations, IsAlgebra}
-use Rattle.xc_alg.specs.Bounds.{AreElements, met, joined}
+use Rattle.xc_alg.specs.Bounds.{met, joined}
 use Rattle.xc_alg.proofs.AlgebraLaws.{met_are_meets, joined_are_joins}
 use Rattle.xc_fixpoint.specs.Functions.{IsFunction}
 use Rattle.xc_fixpoint.specs.Steps.{Step, IsMonotone}
