@@ -4,6 +4,7 @@ pub mod Chains
 pub mod Changes
 pub mod Settling
 pub mod Fixpoints
+pub mod Rounds
 pub mod SameSteps
 pub mod Lists
 pub mod MonotoneSteps

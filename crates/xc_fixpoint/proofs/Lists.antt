@@ -27,6 +27,9 @@ values_of_agree n f g same = fill_by_all g (values n f) n 0 (length-values n f) 
 pub agree_of_values : (n : ℕ) (f g : ℕ → ℕ) → values n f ≡ values n g → Agree n f g
 agree_of_values n f g same s low = sym (value_at n f s low) ∙ (ap (λ (xs : List ℕ). slice_index xs s) same ∙ value_at n g s low)
 
+pub same_list : (n : ℕ) (xs ys : List ℕ) → length xs ≡ n → length ys ≡ n → Agree n (slice_index xs) (slice_index ys) → xs ≡ ys
+same_list n xs ys hx hy same = sym (values_of_list n xs hx) ∙ (values_of_agree n (slice_index xs) (slice_index ys) same ∙ values_of_list n ys hy)
+
 pub elements_from : (size a n : ℕ) (f : ℕ → ℕ) → ((s : ℕ) → a ≤ s → s < a + n → f s < size) → AreElements size (map f (range_with_len a n))
 elements_from size a zero f within = tt
 elements_from size a (suc n) f within = (within a (omega arith) (omega arith), elements_from size (a + 1) n f (λ s low high. within s (omega arith) (omega arith)))
