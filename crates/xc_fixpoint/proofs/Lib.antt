@@ -7,6 +7,7 @@ pub mod Fixpoints
 pub mod Rounds
 pub mod SameSteps
 pub mod Lists
+pub mod ListRounds
 pub mod MonotoneSteps
 pub mod PairHeights
 pub mod ProductHeights
