@@ -27,10 +27,10 @@ use Rattle.xc_merge.proofs.Carrying.{range_more}
 pub name_is : (plan : MapValue) (v : ℕ) (d : Use) → v < length plan.uses → (get_or plan.uses v d).name ≡ name_of plan v
 name_is plan v d h = named plan.uses v d h
   where
-  named : (uses : List Use) (v : ℕ) (d : Use) → v < length uses → (get_or uses v d).name ≡ name_at (use_names uses) v
-  named [] v d h = absurd (omega arith)
-  named (u ∷ uses) zero d h = refl
-  named (u ∷ uses) (suc v) d h = named uses v d (omega arith)
+    named : (uses : List Use) (v : ℕ) (d : Use) → v < length uses → (get_or uses v d).name ≡ name_at (use_names uses) v
+    named [] v d h = absurd (omega arith)
+    named (u ∷ uses) zero d h = refl
+    named (u ∷ uses) (suc v) d h = named uses v d (omega arith)
 
 line_values : (lines : List PropLine) → map (λ (l : PropValue). l.value) (map prop_value lines) ≡ map (λ (l : PropLine). l.value) lines
 line_values [] = refl
@@ -51,14 +51,14 @@ values_are plan v p lines commands same_lines same_commands =
     let first : map (λ (l : PropValue). l.value) p.view.props ≡ words = ap (map (λ (l : PropValue). l.value)) (sym same_lines) ∙ line_values lines in
     let second : map (λ (c : CommandValue). c.value) p.view.commands ≡ more = ap (map (λ (c : CommandValue). c.value)) (sym same_commands) ∙ commanded_values commands in
     sym (rw (first, second) (missing_both f p.lattice.names words more
-        ∙ ap (λ (faults : List MergeFault). faults ++ map f (missing p.lattice.names more)) (missing_items f p.lattice.names (λ (l : PropLine). l.value) lines)
-        ∙ ap (λ (faults : List MergeFault). flat_map (λ (l : PropLine). value_fault (name_of plan v) p.lattice.names l.value) lines ++ faults) (missing_items f p.lattice.names (λ (c : Command). c.value) commands)))
+    ∙ ap (λ (faults : List MergeFault). faults ++ map f (missing p.lattice.names more)) (missing_items f p.lattice.names (λ (l : PropLine). l.value) lines)
+    ∙ ap (λ (faults : List MergeFault). flat_map (λ (l : PropLine). value_fault (name_of plan v) p.lattice.names l.value) lines ++ faults) (missing_items f p.lattice.names (λ (c : Command). c.value) commands)))
 
 pub sent_are : (plan : MapValue) (v : ℕ) (p : Viewpoint) → sent (name_of plan v) v p.view plan.sends ≡ send_faults plan v p
 unfolding sent
 sent_are plan v p =
     sym (flat_mapped (UnknownName (name_of plan v)) (unknown_in_line p.view) (filter (λ (l : SendLine). l.viewpoint == v) plan.sends)
-        ∙ picked_items (λ (l : SendLine). map (UnknownName (name_of plan v)) (unknown_in_line p.view l)) (λ (l : SendLine). l.viewpoint == v) plan.sends)
+    ∙ picked_items (λ (l : SendLine). map (UnknownName (name_of plan v)) (unknown_in_line p.view l)) (λ (l : SendLine). l.viewpoint == v) plan.sends)
 
 pub told_are : (plan : MapValue) (v : ℕ) (p : Viewpoint) → told (name_of plan v) v p plan.tells ≡ tell_faults plan v p
 unfolding told
@@ -68,7 +68,7 @@ pub stuttered_are : (plan : MapValue) (v : ℕ) (p : Viewpoint) → stuttered (n
 unfolding stuttered
 stuttered_are plan v p =
     sym (missing_items (UnknownValue (name_of plan v)) p.lattice.names (λ (l : Stutter). l.value) (filter (λ (l : Stutter). l.viewpoint == v) plan.stutters)
-        ∙ picked_items (λ (l : Stutter). value_fault (name_of plan v) p.lattice.names l.value) (λ (l : Stutter). l.viewpoint == v) plan.stutters)
+    ∙ picked_items (λ (l : Stutter). value_fault (name_of plan v) p.lattice.names l.value) (λ (l : Stutter). l.viewpoint == v) plan.stutters)
 
 pub unfed_are : (plan : MapValue) (v : ℕ) (p : Viewpoint) → unfed (name_of plan v) plan v p.view.vars ≡ variable_faults plan v p
 unfolding unfed
@@ -107,13 +107,13 @@ module _ (plan : MapValue) (v : ℕ) (p : Viewpoint) (name : List ℕ) (lines : 
   pub named_by_commands : (fault : MergeFault) → prop_values name p.lattice.names lines ≡ [] → IsFirstOf (command_values name p.lattice.names commands) fault → IsFirstOf (named_faults plan v p) fault
   named_by_commands fault e h =
       behind (prop_values name p.lattice.names lines) (command_values name p.lattice.names commands ++ sent name v p.view plan.sends) (named_faults plan v p) fault named_all e
-          (first_in_front (command_values name p.lattice.names commands) (sent name v p.view plan.sends) fault h)
+      (first_in_front (command_values name p.lattice.names commands) (sent name v p.view plan.sends) fault h)
 
   pub named_by_sends : {X : Type 0} (result : Result X MergeFault) → prop_values name p.lattice.names lines ≡ [] → command_values name p.lattice.names commands ≡ [] → Finds (sent name v p.view plan.sends) result → Finds (named_faults plan v p) result
   named_by_sends result e g h =
       let P : List MergeFault → Type 0 = λ faults. Finds faults result in
       subst P (ap (λ (faults : List MergeFault). faults ++ command_values name p.lattice.names commands ++ sent name v p.view plan.sends) (sym e)
-          ∙ ap (λ (faults : List MergeFault). prop_values name p.lattice.names lines ++ faults ++ sent name v p.view plan.sends) (sym g) ∙ named_all) h
+      ∙ ap (λ (faults : List MergeFault). prop_values name p.lattice.names lines ++ faults ++ sent name v p.view plan.sends) (sym g) ∙ named_all) h
 
 -- of two parts of the faults: those of the first, or those of the second where the first has none
 pub part_first : (front back : List MergeFault) (fault : MergeFault) → IsFirstOf front fault → IsFirstOf (front ++ back) fault
@@ -129,14 +129,14 @@ pub viewpoints_more : (m : Merge) (v n : ℕ) → v < n → viewpoint_faults m.p
 unfolding faults_from
 viewpoints_more m v n h e =
     sym (ap (flat_map (λ k. viewpoint_faults m.plan k (viewpoint_at m k))) (range_more v n h)
-        ∙ ap (λ (front : List MergeFault). front ++ flat_map (λ k. viewpoint_faults m.plan k (viewpoint_at m k)) (range_with_len (v + 1) (n - (v + 1)))) e)
+    ∙ ap (λ (front : List MergeFault). front ++ flat_map (λ k. viewpoint_faults m.plan k (viewpoint_at m k)) (range_with_len (v + 1) (n - (v + 1)))) e)
 
 pub viewpoints_stop : (m : Merge) (v n : ℕ) (fault : MergeFault) (all : List MergeFault) → v < n → faults_from m v (n - v) ≡ all → IsFirstOf (viewpoint_faults m.plan v (viewpoint_at m v)) fault → IsFirstOf all fault
 unfolding faults_from
 viewpoints_stop m v n fault all h same first =
     let P : List MergeFault → Type 0 = λ faults. IsFirstOf faults fault in
     subst P (sym (ap (flat_map (λ k. viewpoint_faults m.plan k (viewpoint_at m k))) (range_more v n h)) ∙ same)
-        (first_in_front (viewpoint_faults m.plan v (viewpoint_at m v)) (flat_map (λ k. viewpoint_faults m.plan k (viewpoint_at m k)) (range_with_len (v + 1) (n - (v + 1)))) fault first)
+    (first_in_front (viewpoint_faults m.plan v (viewpoint_at m v)) (flat_map (λ k. viewpoint_faults m.plan k (viewpoint_at m k)) (range_with_len (v + 1) (n - (v + 1)))) fault first)
 
 pub viewpoints_none : (m : Merge) (v n : ℕ) → n ≤ v → faults_from m v (n - v) ≡ []
 unfolding faults_from

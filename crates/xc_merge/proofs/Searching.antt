@@ -56,9 +56,9 @@ append_missing : (names xs ys : List (List ℕ)) → missing names (xs ++ ys) �
 append_missing names [] ys = refl
 append_missing names (x ∷ xs) ys = append_one (is_among names x) x (append_missing names xs ys)
   where
-  append_one : (b : Bool) (x : List ℕ) {all front back : List (List ℕ)} → all ≡ front ++ back → cond (not b) (x ∷ all) all ≡ cond (not b) (x ∷ front) front ++ back
-  append_one true x e = e
-  append_one false x e = ap (λ (words : List (List ℕ)). x ∷ words) e
+    append_one : (b : Bool) (x : List ℕ) {all front back : List (List ℕ)} → all ≡ front ++ back → cond (not b) (x ∷ all) all ≡ cond (not b) (x ∷ front) front ++ back
+    append_one true x e = e
+    append_one false x e = ap (λ (words : List (List ℕ)). x ∷ words) e
 
 pub missing_both : (f : List ℕ → MergeFault) (names xs ys : List (List ℕ)) → map f (missing names (xs ++ ys)) ≡ map f (missing names xs) ++ map f (missing names ys)
 missing_both f names xs ys = ap (map f) (append_missing names xs ys) ∙ append_mapped f (missing names xs) (missing names ys)
