@@ -4,6 +4,8 @@ pub mod ElementCodes
 pub mod Facts
 pub mod FormulaReading
 pub mod Implications
+pub mod KindCases
+pub mod Monotone
 pub mod NameReading
 pub mod NameSteps
 pub mod Nodes
@@ -11,6 +13,7 @@ pub mod ParserSteps
 pub mod Printing
 pub mod Ranges
 pub mod Reading
+pub mod RoundTables
 pub mod Sizes
 pub mod TreeTables
 pub mod Verdicts

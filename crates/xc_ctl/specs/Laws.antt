@@ -61,8 +61,8 @@ RoundsExist = OfTables (λ frame nodes. (table : RoundsTable) × IsTableFor fram
 
 -- two of them tell the same
 pub record TellTheSame (frame : Frame) (nodes : List Kind) (table other : RoundsTable) : Type 0 where
-  pub states : table.states ≡ other.states
-  pub nodes : table.nodes ≡ other.nodes
+  pub same_states : table.states ≡ other.states
+  pub same_nodes : table.nodes ≡ other.nodes
   pub at : (i : ℕ) → i < length nodes → Agree frame.states (table.at i) (other.at i)
   pub rounds : (i : ℕ) → i < length nodes → table.rounds i ≡ other.rounds i
   pub round_at : (i k : ℕ) → i < length nodes → k ≤ table.rounds i → Agree frame.states (table.round_at i k) (other.round_at i k)

@@ -26,7 +26,7 @@ mod written_out;
 pub use formula::{Formula, Formulas};
 pub use framed::Framed;
 pub use kind::Kind;
-pub use laws::{formulas_are_read, formulas_have_one_denotation};
+pub use laws::{formulas_are_read, formulas_have_one_denotation, formulas_have_one_table};
 pub use reader::read_formulas;
 pub use rounds::Rounds;
 pub use verdict::files_have_one_reading;
