@@ -1,5 +1,5 @@
 -- The nodes of a table denote functions, one each.
-use Rattle.std.proofs.Common.{◌≡◌, ℕ, zero, suc, ◌+◌, ◌<◌, ◌≤◌, true, false, cond, ◌==◌, List, [], ◌∷◌, length, refl, sym, ◌∙◌, subst, arith, inl, inr, ◌⊎◌}
+use Rattle.std.proofs.Common.{◌≡◌, ℕ, zero, suc, ◌+◌, ◌-◌, ◌<◌, ◌≤◌, true, false, cond, ◌==◌, List, [], ◌∷◌, length, refl, sym, ◌∙◌, subst, arith, inl, inr, ◌⊎◌}
 use Rattle.std.proofs.lemmas.Bool.{and_parts, cases_lt}
 use Rattle.std.proofs.lemmas.List.Sums.{AllPass-from_list_all}
 use Rattle.xc_alg.specs.Products.{product}
@@ -10,8 +10,8 @@ use Rattle.xc_fixpoint.proofs.Fixpoints.{extremal_is_unique, extremal_exists}
 use Rattle.xc_fixpoint.proofs.SameSteps.{AreSameSteps, same_steps-fixpoint, same_steps-extremal}
 use Rattle.xc_ctl.specs.Frames.{Frame, IsFrame, step_at}
 use Rattle.xc_ctl.specs.Tables.{first_child, second_child, has_children_below, are_ordered_from, node_at, is_kind_in, is_table_in}
-use Rattle.xc_ctl.specs.Denotations.{Denotes, AreDenotations}
-use Rattle.xc_ctl.specs.Laws.{DenotationsExist, DenotationsAreUnique, DenotationsAreInRange}
+use Rattle.xc_ctl.specs.Denotations.{Denotes, AreDenotations, IsDenoted}
+use Rattle.xc_ctl.specs.Laws.{DenotationsExist, DenotationsAreUnique, DenotationsAreInRange, FormulasDenote, FormulasDenoteOnce}
 use Rattle.xc_ctl.specs.declared.kind.Kind.{Kind}
 use Rattle.xc_ctl.specs.declared.kind.Kind.TheVariants.{Const}
 use Rattle.xc_ctl.proofs.KindCases.{Which, which, plain_step}
@@ -150,3 +150,12 @@ pub denotations_exist : DenotationsExist
 denotations_exist frame nodes is ordered in_table =
     let all = below_all frame is nodes ordered in_table (length nodes) in
     (all.0, record { node = λ i within. all.1.node i within within })
+
+pub formulas_denote : FormulasDenote
+formulas_denote frame nodes is ordered in_table =
+    let all = denotations_exist frame nodes is ordered in_table in
+    (all.0 (length nodes - 1), record { functions = all.0; denoted = all.1; last = λ s low. refl })
+
+pub formulas_denote_once : FormulasDenoteOnce
+formulas_denote_once frame nodes is ordered in_table some f g hf hg s low =
+    hf.last s low ∙ denotations_are_unique frame nodes is ordered in_table hf.functions hg.functions hf.denoted hg.denoted (length nodes - 1) (omega arith) s low ∙ sym (hg.last s low)

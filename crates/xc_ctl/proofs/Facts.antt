@@ -1,5 +1,5 @@
 -- Formulas and what they denote at small cases whose values are known from outside: a wrong definition does not check here.
-use Rattle.std.proofs.Common.{◌≡◌, ℕ, ◌+◌, ◌-◌, Bool, true, false, cond, eqb, List, [], ◌∷◌, ◌++◌, replicate, Some, None, codes, refl}
+use Rattle.std.proofs.Common.{◌≡◌, ℕ, ◌+◌, Bool, true, false, cond, eqb, List, [], ◌∷◌, ◌++◌, replicate, Some, None, codes, refl}
 use Rattle.xc_theory.specs.Bounds.{first_meet, first_join}
 use Rattle.xc_theory.proofs.Facts.{two, chain}
 use Rattle.xc_alg.specs.Products.{product}
@@ -17,8 +17,7 @@ use Rattle.xc_ctl.specs.Trees.{Signature, Tree, is_fit, is_part, element_named, 
 use Rattle.xc_ctl.specs.Tables.{size_of, nodes_of, is_table, is_table_in}
 use Rattle.xc_ctl.specs.Texts.{text_of}
 use Rattle.xc_ctl.specs.FormulaFiles.{tree_excess, missing_part}
-use Rattle.xc_ctl.specs.Frames.{Frame, some_next, all_next, step_at}
-use Rattle.xc_fixpoint.specs.Iterates.{iterate}
+use Rattle.xc_ctl.specs.Frames.{Frame, some_next, step_at}
 use Rattle.xc_ctl.specs.declared.kind.Kind.TheVariants as kinds
 use Rattle.xc_ctl.specs.declared.prefix.Prefix.TheVariants.{Negation, SomeNext, AllNext, SomeFinally, AllFinally, SomeGlobally, AllGlobally}
 use Rattle.xc_ctl.specs.declared.prefix.Paths.TheVariants.{SomePath, EveryPath}
@@ -135,29 +134,3 @@ pub steps : (step_at frame (kinds.And 0 1) (λ s. 4) (λ s. 2) (λ s. 0) 0 ≡ 1
     × (step_at frame (kinds.Const 3) (λ s. 4) (λ s. 2) (λ s. 0) 0 ≡ 3) × (step_at frame (kinds.Atom 0) (λ s. 4) (λ s. 2) (λ s. 0) 1 ≡ 5) × (step_at frame (kinds.Ex 0) (λ s. 5) (λ s. 0) (λ s. 0) 0 ≡ 4)
 unfolding some_next product first_meet first_join
 steps = (refl, refl, refl, refl, refl, refl)
-
--- Two states over two elements: one step from 0 to 1, which is a dead end, and one from 0 to itself. The proposition 0 is true at 1
--- alone, the proposition 1 at 0 alone.
-abbrev small : Frame
-small = record { parts = two ∷ []; states = 2; relation = λ s t. cond (eqb s 0) 1 0; props = 2; prop = λ q s. cond (eqb q 0) s (1 - s) }
-
-abbrev at_one : ℕ → ℕ
-at_one s = s
-
-abbrev at_zero : ℕ → ℕ
-at_zero s = 1 - s
-
--- one step: `E[true U b]` of what is true nowhere is b; `A[true U b]` is not true at a dead end where b is not, though all of no next
--- states have it; `EG a` of what is true everywhere is true where there is a next state and a is true
-pub fixpoint_steps : (step_at small (kinds.Eu 0 1) (λ s. 1) at_one (λ s. 0) 0 ≡ 0) × (step_at small (kinds.Eu 0 1) (λ s. 1) at_one at_one 0 ≡ 1) × (step_at small (kinds.Au 0 1) (λ s. 1) at_zero (λ s. 1) 1 ≡ 0)
-    × (all_next small (λ s. 0) 1 ≡ 1) × (step_at small (kinds.Au 0 1) (λ s. 1) at_one at_one 0 ≡ 0) × (step_at small (kinds.Eg 0) (λ s. 1) (λ s. 0) (λ s. 1) 0 ≡ 1) × (step_at small (kinds.Eg 0) (λ s. 1) (λ s. 0) (λ s. 1) 1 ≡ 0)
-unfolding some_next product first_meet first_join
-fixpoint_steps = (refl, refl, refl, refl, refl, refl, refl)
-
--- Iterates on that frame: `EF` of what is true at 1 is true at both states after two rounds, `AF` of it at 1 alone after one, since
--- the loop at 0 never leaves; `EG true` is true on the loop alone after one.
-pub reached : (iterate (product (two ∷ [])) true (step_at small (kinds.Eu 0 1) (λ s. 1) at_one) 2 0 ≡ 1) × (iterate (product (two ∷ [])) true (step_at small (kinds.Eu 0 1) (λ s. 1) at_one) 1 0 ≡ 0)
-    × (iterate (product (two ∷ [])) true (step_at small (kinds.Au 0 1) (λ s. 1) at_one) 2 0 ≡ 0) × (iterate (product (two ∷ [])) true (step_at small (kinds.Au 0 1) (λ s. 1) at_one) 1 1 ≡ 1)
-    × (iterate (product (two ∷ [])) false (step_at small (kinds.Eg 0) (λ s. 1) (λ s. 0)) 2 0 ≡ 1) × (iterate (product (two ∷ [])) false (step_at small (kinds.Eg 0) (λ s. 1) (λ s. 0)) 1 1 ≡ 0)
-unfolding some_next product first_meet first_join
-reached = (refl, refl, refl, refl, refl, refl)

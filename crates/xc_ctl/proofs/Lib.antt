@@ -10,6 +10,7 @@ pub mod NameReading
 pub mod NameSteps
 pub mod Nodes
 pub mod ParserSteps
+pub mod PathFacts
 pub mod Printing
 pub mod Ranges
 pub mod Reading

@@ -12,7 +12,7 @@ use Rattle.xc_ctl.specs.Tables.{are_ordered_from, is_table_in}
 use Rattle.xc_ctl.specs.FormulaFiles.{formula_format}
 use Rattle.xc_ctl.specs.Reading.{formula_in}
 use Rattle.xc_ctl.specs.Frames.{Frame, IsFrame}
-use Rattle.xc_ctl.specs.Denotations.{AreDenotations}
+use Rattle.xc_ctl.specs.Denotations.{AreDenotations, IsDenoted}
 use Rattle.xc_ctl.specs.Rounds.{RoundsTable, IsTableFor}
 use Rattle.xc_ctl.specs.declared.kind.Kind.{Kind}
 
@@ -54,6 +54,13 @@ DenotationsAreUnique = OfTables (λ frame nodes. (d e : ℕ → ℕ → ℕ) →
 -- their values are elements
 abbrev pub DenotationsAreInRange : Type 0
 DenotationsAreInRange = OfTables (λ frame nodes. (d : ℕ → ℕ → ℕ) → AreDenotations frame nodes d → (i : ℕ) → i < length nodes → IsFunction (product frame.parts) frame.states (d i))
+
+-- so a formula, which has a last node, denotes a function and no two that differ at a state
+abbrev pub FormulasDenote : Type 0
+FormulasDenote = OfTables (λ frame nodes. (f : ℕ → ℕ) × IsDenoted frame nodes f)
+
+abbrev pub FormulasDenoteOnce : Type 0
+FormulasDenoteOnce = OfTables (λ frame nodes. 1 ≤ length nodes → (f g : ℕ → ℕ) → IsDenoted frame nodes f → IsDenoted frame nodes g → Agree frame.states f g)
 
 -- there is a table of rounds
 abbrev pub RoundsExist : Type 0

@@ -1,4 +1,7 @@
+//! What an engine evaluates formulas over.
+
 ghost use Rattle.std.specs.Prelude.{◌≡◌, ◌<◌};
+ghost use Rattle.xc_alg.specs.Products.{product};
 ghost use Rattle.xc_ctl.specs.Frames.{Frame, IsFrame};
 
 use xc_alg::Algebra;
@@ -31,4 +34,20 @@ pub trait Framed {
         ensures { Self.Ring.parts result.now ≡ (frame self.now).parts };
 
     ghost is_frame: { (x : Self) → IsFrame (frame x) };
+}
+
+/// The values of every such machine are elements of its algebra, whose parts are lawful.
+pub fn machines_are_frames<M: Framed>()
+    ensures { (x : M) → IsFrame (M.frame x) }
+{}
+
+/// The meet of the transition from the first state to the second with a value.
+pub fn weighed<M: Framed>(machine: &M, s: u32, t: u32, value: u16) -> u16
+    requires from { s < (M.frame machine.now).states }
+    requires to { t < (M.frame machine.now).states }
+    requires value { value < (product (M.frame machine.now).parts).size }
+    ensures range { result < (product (M.frame machine.now).parts).size }
+    ensures value { let frame = M.frame machine.now in result ≡ (product frame.parts).meet (frame.relation s t) value }
+{
+    machine.product().meet(machine.step(s, t), value)
 }

@@ -1,7 +1,7 @@
 //! Laws of the definitions in `specs/`, carried by a function with an empty body.
 ghost use Rattle.xc_ctl.specs.Laws.{FormulasAreRead, FormulasAreUnique};
 ghost use Rattle.xc_ctl.specs.Laws.{RoundsExist, RoundsAreUnique, RoundsAreFew};
-ghost use Rattle.xc_ctl.specs.Laws.{DenotationsExist, DenotationsAreUnique, DenotationsAreInRange};
+ghost use Rattle.xc_ctl.specs.Laws.{DenotationsExist, DenotationsAreUnique, DenotationsAreInRange, FormulasDenote, FormulasDenoteOnce};
 
 /// On every frame the nodes of a table that is in range denote functions from the states to the elements, which are the only ones
 /// at the states.
@@ -9,6 +9,8 @@ pub fn formulas_have_one_denotation()
     ensures exist { DenotationsExist }
     ensures unique { DenotationsAreUnique }
     ensures in_range { DenotationsAreInRange }
+    ensures formula { FormulasDenote }
+    ensures formula_once { FormulasDenoteOnce }
 {}
 
 /// There is a table of rounds for every frame and every table of nodes that is in range there, and no two tell different things. The

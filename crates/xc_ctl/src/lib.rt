@@ -24,7 +24,7 @@ mod words;
 mod written_out;
 
 pub use formula::{Formula, Formulas};
-pub use framed::Framed;
+pub use framed::{Framed, machines_are_frames, weighed};
 pub use kind::Kind;
 pub use laws::{formulas_are_read, formulas_have_one_denotation, formulas_have_one_table};
 pub use reader::read_formulas;
