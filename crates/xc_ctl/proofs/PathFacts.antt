@@ -57,7 +57,7 @@ one_or_none false = omega arith
 is_frame : IsFrame frame
 is_frame =
     record {
-      lawful = (two_is_lawful, (omega arith, tt));
+      lawful = (two_is_lawful, omega arith, tt);
       steps = λ s t here there. element _ (one_or_none (eqb s 0));
       values = λ q s low here. absurd (omega arith);
     }
