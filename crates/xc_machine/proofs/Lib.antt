@@ -1,0 +1,10 @@
+pub mod Joining
+pub mod Seeing
+pub mod Sound
+pub mod Stepping
+pub mod Judging
+pub mod Fronts
+pub mod Descending
+pub mod Faultless
+pub mod Tabling
+pub mod Merging

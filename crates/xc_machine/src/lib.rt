@@ -1,0 +1,12 @@
+//! The merged machine of several viewpoints: its states, its steps and its propositions, asked one at a time.
+#![tactic(auto)]
+
+mod elements;
+mod feeds;
+mod initials;
+mod joins;
+mod judgement;
+mod merged;
+mod seen;
+mod tables;
+mod tellings;
