@@ -3,7 +3,7 @@ use Rattle.std.proofs.Common.{◌≡◌, ℕ, zero, suc, ◌+◌, ◌-◌, ◌*�
 use Rattle.std.proofs.Math.ListN.{set}
 use Rattle.std.specs.List.{list_all, filter, range_with_len}
 use Rattle.std.proofs.lemmas.Bool.{cases_lt, ltb-true, true≢false, and_left}
-use Rattle.std.proofs.lemmas.List.{take_more_set, map_more, take_all, length-map, get_or-map, get_or_past, append-nil, length-append}
+use Rattle.std.proofs.lemmas.List.{take_more_set, map_more, take_all, length-map, get_or-map, get_or_past, append-nil, append_assoc, length-append}
 use Rattle.std.proofs.lemmas.List.FromFn.{length-range_with_len}
 use Rattle.xc_theory.specs.Codes.{digits, total, AreDigits}
 use Rattle.xc_theory.proofs.Codes.{digits_are_in_range}
@@ -236,3 +236,16 @@ found_below m upto found h = omega (arith, h.count_is, filter_count (is_merged_i
 pub found_none : (m : Merge) (found : Found) → found.count ≡ 0 → found.states ≡ [] → IsFound m 0 found
 unfolding initials_below
 found_none m found e f = record { count_is = e; listed = λ few. f }
+
+-- as many places as variables are known or not
+pub known-length : (feeds : List Feed) (depth : ℕ) (read : List Bool) (count : ℕ) → count ≡ length feeds → take (length feeds) read ≡ known_by feeds depth → length (take count read) ≡ count
+unfolding known_by
+known-length feeds depth read count e known = ap (λ (n : ℕ). length (take n read)) e ∙ ap length known ∙ length-map feeds (reads_below depth) ∙ sym e
+
+-- one more state is appended
+pub states_more : (old before new : List ℕ) (first state : ℕ) → first ≤ state → before ≡ old ++ range_with_len first (state - first) → new ≡ before ++ state ∷ [] → new ≡ old ++ range_with_len first (state + 1 - first)
+states_more old before new first state low e f =
+    let more : state + 1 - first ≡ suc (state - first) = omega arith in
+    let end : first + (state - first) ≡ state = omega arith in
+    f ∙ ap (λ (xs : List ℕ). xs ++ state ∷ []) e ∙ append_assoc old (range_with_len first (state - first)) (state ∷ [])
+    ∙ ap (λ (xs : List ℕ). old ++ xs) (ap (λ (n : ℕ). range_with_len first (state - first) ++ n ∷ []) (sym end) ∙ sym (range_end first (state - first)) ∙ ap (range_with_len first) (sym more))

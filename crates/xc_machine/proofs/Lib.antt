@@ -8,3 +8,5 @@ pub mod Descending
 pub mod Faultless
 pub mod Tabling
 pub mod Merging
+pub mod Giving
+pub mod Coding

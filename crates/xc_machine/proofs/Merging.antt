@@ -17,12 +17,17 @@ use Rattle.xc_sigmap.specs.MapFiles.{MapValue}
 use Rattle.xc_sigmap.specs.declared.sigmap.SigMap.{SigMap}
 use Rattle.xc_merge.specs.Merges.{Merge, Viewpoint, nobody, viewpoint_at, parts_of, names_of_parts}
 use Rattle.xc_merge.specs.Merging.{viewpoint_of, merge_in}
-use Rattle.xc_merge.specs.Projections.{states_of, row_of}
+use Rattle.xc_merge.specs.Projections.{states_of, row_of, row_seen, place_seen, projection}
+use Rattle.xc_merge.specs.MergedFrames.{is_initial_for}
+use Rattle.xc_expr.specs.Tests.{holds_at}
+use Rattle.xc_view.specs.Views.{value_of as view_of}
+use Rattle.xc_expr.specs.declared.domain.Domain.{Domain}
+use Rattle.xc_machine.proofs.Joining.{digits_count}
 use Rattle.xc_machine.specs.Tabled.{AreTables, AreWeights, IsGood}
 use Rattle.xc_machine.specs.Gathering.{AreTabled, operations, names_in}
 use Rattle.xc_machine.specs.declared.tables.Tables.{Tables}
 use Rattle.xc_machine.proofs.Seeing.{item}
-use Rattle.xc_machine.proofs.Stepping.{map_map}
+use Rattle.xc_machine.proofs.Stepping.{map_map, row_back}
 
 -- a viewpoint by its place
 pub viewpoint_is : (sigmap : SigMap) (views : List (View × Lattice)) (v : ℕ) (pair : View × Lattice) → v < length views → pair ≡ get_or views v pair → viewpoint_at (merge_in sigmap views) v ≡ viewpoint_of pair
@@ -86,3 +91,32 @@ operations_size plan v p t are = ap (λ (l : LatticeData). (product (l ∷ [])).
 
 pub weights_sized : (plan : MapValue) (v : ℕ) (p : Viewpoint) (t : Tables) (weights : List ℕ) → AreTables plan v p t → AreWeights (size p.lattice.algebra) weights → AreWeights (product (lattice_in_any t.operations ∷ [])).size weights
 weights_sized plan v p t weights are h = rw (operations_size plan v p t are) h
+
+-- what is seen of places, as the code has it
+module _ (sigmap : SigMap) (views : List (View × Lattice)) (v : ℕ) (pair : View × Lattice) (row places : List ℕ) (vars : List Domain) (count : ℕ)
+    (low : v < length views) (is : pair ≡ get_or views v pair) (known : take (length (viewpoint_at (merge_in sigmap views) v).view.vars) places ≡ row_seen (map_of sigmap) v (viewpoint_at (merge_in sigmap views) v) row)
+    (vars_is : vars ≡ (view_of pair.0).vars) (count_is : count ≡ length vars) where
+  pub seen_row : take count places ≡ row_seen (map_of sigmap) v (viewpoint_of pair) row
+  seen_row =
+      ap (λ (n : ℕ). take n places) (count_is ∙ ap length vars_is)
+      ∙ subst (λ (p : Viewpoint). take (length p.view.vars) places ≡ row_seen (map_of sigmap) v p row) (viewpoint_is sigmap views v pair low is) known
+
+  pub seen_length : length (take count places) ≡ length vars
+  seen_length = ap length seen_row ∙ length-map (view_of pair.0).vars (place_seen (map_of sigmap) v row) ∙ sym (ap length vars_is)
+
+  pub seen_count : count ≡ length (take count places)
+  seen_count = count_is ∙ sym seen_length
+
+  pub seen_places : AreDigits (sizes_of (view_of pair.0).vars) (row_seen (map_of sigmap) v (viewpoint_of pair) row) → AreDigits (sizes_of vars) (take count places)
+  seen_places h = rw (seen_row, vars_is) h
+
+pub digits_pair : (sigmap : SigMap) (views : List (View × Lattice)) (v : ℕ) (pair : View × Lattice) (row : List ℕ) → v < length views → pair ≡ get_or views v pair
+    → AreDigits (sizes_of (viewpoint_at (merge_in sigmap views) v).view.vars) (row_seen (map_of sigmap) v (viewpoint_at (merge_in sigmap views) v) row) → AreDigits (sizes_of (view_of pair.0).vars) (row_seen (map_of sigmap) v (viewpoint_of pair) row)
+digits_pair sigmap views v pair row low is h = subst (λ (p : Viewpoint). AreDigits (sizes_of p.view.vars) (row_seen (map_of sigmap) v p row)) (viewpoint_is sigmap views v pair low is) h
+
+-- whether a state is initial for a viewpoint, by what is seen of it
+pub initial_for_is : (plan : MapValue) (v s : ℕ) (p : Viewpoint) (row : List ℕ) → row ≡ row_of plan s → AreDigits (sizes_of p.view.vars) (row_seen plan v p row) → holds_at p.view.init (row_seen plan v p row) ≡ is_initial_for plan s v p
+initial_for_is plan v s p row e h =
+    let same : row_seen plan v p (row_of plan s) ≡ row_seen plan v p row = ap (row_seen plan v p) (sym e) in
+    let digits_ : AreDigits (sizes_of p.view.vars) (row_seen plan v p (row_of plan s)) = rw same h in
+    ap (holds_at p.view.init) (sym same ∙ sym (row_back p.view (row_seen plan v p (row_of plan s)) (projection plan v p s) digits_ refl))

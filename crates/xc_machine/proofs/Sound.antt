@@ -1,7 +1,10 @@
 -- What holds of each view and of each map, part by part.
-use Rattle.std.proofs.Common.{◌≡◌, ℕ, ◌+◌, ◌*◌, ◌<◌, ◌≤◌, true, List, [], ◌∷◌, length, map, refl, arith}
+use Rattle.std.proofs.Common.{◌≡◌, ℕ, ◌+◌, ◌*◌, ◌<◌, ◌≤◌, true, List, [], ◌∷◌, length, map, get_or, take, drop, refl, sym, ◌∙◌, ap, subst, arith}
 use Rattle.std.specs.List.{list_all}
 use Rattle.std.proofs.lemmas.Bool.{and_parts, and_from, leb-true}
+use Rattle.std.proofs.lemmas.List.{get_or-map}
+use Rattle.xc_machine.proofs.Joining.{passes}
+use Rattle.xc_machine.proofs.Fronts.{positive_factors, total_split}
 use Rattle.xc_theory.specs.Codes.{total}
 use Rattle.xc_expr.specs.Variables.{are_fit, is_domain, sizes_of}
 use Rattle.xc_expr.specs.declared.domain.Domain.{Domain}
@@ -110,3 +113,23 @@ map_states m h = states_few m.vars (map_parts m h).fit
 
 pub some_states : (m : MapValue) → maps.is_sound m ≡ true → 1 ≤ total (sizes_of m.vars)
 some_states m h = total_some m.vars (map_domains m h)
+
+-- how many values a variable of a map has
+pub size_at : (vars : List Domain) (x : ℕ) (d : Domain) → x < length vars → d ≡ get_or vars x d → length d.values ≡ get_or (sizes_of vars) x 0
+size_at vars x d low is = ap (λ (e : Domain). length e.values) is ∙ sym (get_or-map (λ (e : Domain). length e.values) vars x d 0 low)
+
+pub size_some : (m : MapValue) (x : ℕ) (d : Domain) → maps.is_sound m ≡ true → x < length m.vars → d ≡ get_or m.vars x d → 2 ≤ length d.values
+size_some m x d h low is =
+    let there : is_domain d ≡ true = passes is_domain m.vars x d (map_domains m h) low is in
+    leb-true 2 (length d.values) (and_parts _ _ (and_parts _ _ there).0).0
+
+pub size_few : (m : MapValue) (x : ℕ) (d : Domain) → maps.is_sound m ≡ true → x < length m.vars → d ≡ get_or m.vars x d → length d.values ≤ 16
+size_few m x d h low is =
+    let there : is_domain d ≡ true = passes is_domain m.vars x d (map_domains m h) low is in
+    leb-true (length d.values) 16 (and_parts _ _ (and_parts _ _ there).0).1
+
+-- the states of the variables from one on are some
+pub rest_some : (m : MapValue) (depth : ℕ) → maps.is_sound m ≡ true → 0 < total (drop depth (sizes_of m.vars))
+rest_some m depth h =
+    let some : 0 < total (sizes_of m.vars) = omega (arith, some_states m h) in
+    (positive_factors (total (take depth (sizes_of m.vars))) (total (drop depth (sizes_of m.vars))) (subst (λ (n : ℕ). 0 < n) (total_split (sizes_of m.vars) depth) some)).1

@@ -235,3 +235,19 @@ constant_by plan v s p (Some line) c e = constant_is plan v s p line.told c e
 
 pub fixed_value : (plan : MapValue) (v k s : ℕ) (p : Viewpoint) (telling : Telling) (c : ℕ) → IsTelling plan v p k telling → telling.fixed ≡ Some c → c ≡ prop_digit plan k s v p
 fixed_value plan v k s p telling c h e = constant_by plan v s p (line_of plan v k) c (sym h.fixed_is ∙ e)
+
+-- what steps have at least is an element
+pub base_within : (plan : MapValue) (v : ℕ) (p : Viewpoint) (t : Tables) (b : Bool) → AreTables plan v p t → IsGood p.lattice → cond b t.stutter t.bottom < size p.lattice.algebra
+base_within plan v p t true are good = rw are.stutter_is (join_of_lt p.lattice.algebra.order (map (place_of p.lattice.names) (stutter_words plan v)) (omega (arith, good.some)))
+base_within plan v p t false are good = rw are.bottom_is (join_of_lt p.lattice.algebra.order [] (omega (arith, good.some)))
+
+pub bottom_within : (plan : MapValue) (v : ℕ) (p : Viewpoint) (t : Tables) → AreTables plan v p t → IsGood p.lattice → t.bottom < size p.lattice.algebra
+bottom_within plan v p t are good = base_within plan v p t false are good
+
+pub stutter_within : (plan : MapValue) (v : ℕ) (p : Viewpoint) (t : Tables) → AreTables plan v p t → IsGood p.lattice → t.stutter < size p.lattice.algebra
+stutter_within plan v p t are good = base_within plan v p t true are good
+
+-- the stutter value that is joined of the words of the map
+pub stutter_is_joined : (l : LatticeValue) (words : List (List ℕ)) → IsGood l → list_all (is_among l.names) words ≡ true → joined (product (l.algebra ∷ [])) (map (place_of l.names) words) ≡ join_named l.algebra.order l.names words
+stutter_is_joined l words good known =
+    joined_is_bound l.algebra (map (place_of l.names) words) good.lawful good.some (subst (λ (n : ℕ). AreElements n (map (place_of l.names) words)) good.named (known_are l.names words known))

@@ -6,3 +6,6 @@ pub mod Judging
 pub mod Tabled
 pub mod Seeing
 pub mod Gathered
+pub mod Digits
+pub mod Machines
+pub mod Places

@@ -89,10 +89,14 @@ impl Merged {
         requires row { row.now ≡ row_of (map_of self.now.sigmap) s }
         ensures { result ≡ is_initial_for (map_of self.now.sigmap) s v (viewpoint_at (merged_of self.now) v) }
     {
-        let seen = self.seen(v, row);
-        let view = &self.views.get(v).0;
+        let places = self.seen(v, row);
+        let pair = self.views.get(v);
+        let view = &pair.0;
         view.is_sound();
-        holds_in(view.init(), view.vars(), &seen[..view.vars().len()])
+        let vars = view.vars();
+        let count = vars.len();
+        let seen = &places[..count];
+        holds_in(view.init(), vars, seen)
     }
 
     /// Whether a state is initial for each viewpoint.
@@ -103,9 +107,10 @@ impl Merged {
     {
         self.sigmap.is_sound();
         let vars = self.sigmap.vars();
-        let row = places_of(vars, s);
+        let places = places_of(vars, s);
+        let row = &places[..vars.len()];
         for v in 0..self.views.len() {
-            if !self.is_initial_for(v, s, &row[..vars.len()]) {
+            if !self.is_initial_for(v, s, row) {
                 return false;
             }
         }
@@ -118,15 +123,21 @@ impl Merged {
         requires row { AreDigits (sizes_of (map_of self.now.sigmap).vars) row.now }
         ensures { IsJudgedFor (merged_of self.now) depth row.now v result }
     {
-        let seen = self.seen(v, row);
-        let view = &self.views.get(v).0;
+        let places = self.seen(v, row);
+        let pair = self.views.get(v);
+        let view = &pair.0;
         view.is_sound();
-        let known = known(&self.tables.get(v).feeds, depth);
-        let count = view.vars().len();
-        judge(view.init(), view.vars(), &seen[..count], &known[..count])
+        let tables = self.tables.get(v);
+        let read = known(&tables.feeds, depth);
+        let vars = view.vars();
+        let count = vars.len();
+        let seen = &places[..count];
+        let known = &read[..count];
+        judge(view.init(), vars, seen, known)
     }
 
     /// What the viewpoints up to one say, of what those before it say.
+    #[tactic(auto, using(std::proofs::lemmas::Grind::common_steps, crate::proofs::Descending::next_judged, crate::proofs::Descending::still_fails))]
     fn judge_next(&self, before: Judgement, v: usize, depth: usize, row: &[u8]) -> Judgement
         requires v { v < length self.now.views }
         requires row { AreDigits (sizes_of (map_of self.now.sigmap).vars) row.now }

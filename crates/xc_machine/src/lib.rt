@@ -3,10 +3,13 @@
 
 mod elements;
 mod feeds;
+mod gathering;
 mod initials;
 mod joins;
 mod judgement;
 mod merged;
 mod seen;
+mod stuttering;
 mod tables;
+mod tabulate;
 mod tellings;

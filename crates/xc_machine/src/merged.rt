@@ -40,7 +40,7 @@ impl Merged {
     ghost use Rattle.xc_machine.specs.Gathered.{merged_of};
 
     /// How many states the merged machine has.
-    #[tactic(auto, using(std::proofs::lemmas::Grind::common_steps, crate::proofs::Sound::map_domains, crate::proofs::Sound::map_states, crate::proofs::Sound::some_states))]
+    #[tactic(auto, using(std::proofs::lemmas::Grind::common_steps, crate::proofs::Sound::map_domains, crate::proofs::Sound::map_states))]
     pub(crate) fn states(&self) -> u32
         ensures states { result ≡ states_of (merged_of self.now).plan }
         ensures some { 1 ≤ result }
@@ -83,16 +83,44 @@ impl Merged {
         view.is_sound();
         is_good(&pair.1);
         let tables = self.tables.get(v);
-        let count = view.vars().len();
-        let base = tables.base(s == t, &first[..count], &second[..count]);
-        step_join(
-            &tables.operations,
-            view.vars(),
-            view.commands().as_slice(),
-            tables.weights.as_slice(),
-            base,
-            &first[..count],
-            &second[..count],
-        )
+        let vars = view.vars();
+        let commands = view.commands().as_slice();
+        let count = vars.len();
+        let here = &first[..count];
+        let there = &second[..count];
+        let base = tables.base(s == t, here, there);
+        let weights = tables.weights.as_slice();
+        step_join(&tables.operations, vars, commands, weights, base, here, there)
+    }
+
+    /// What a viewpoint gives to a proposition of the map at a state.
+    #[tactic(auto, using(std::proofs::lemmas::Grind::common_steps))]
+    pub(crate) fn prop_digit(&self, v: usize, k: usize, s: u32, row: &[u8]) -> u8
+        requires v { v < length self.now.views }
+        requires k { k < length (map_of self.now.sigmap).props }
+        requires s { s < states_of (map_of self.now.sigmap) }
+        requires row { row.now ≡ row_of (map_of self.now.sigmap) s }
+        ensures digit { result ≡ prop_digit (map_of self.now.sigmap) k s v (viewpoint_at (merged_of self.now) v) }
+        ensures below { result < size (viewpoint_at (merged_of self.now) v).lattice.algebra }
+    {
+        let places = self.seen(v, row);
+        let pair = self.views.get(v);
+        let view = &pair.0;
+        view.is_sound();
+        is_good(&pair.1);
+        let tables = self.tables.get(v);
+        let telling = tables.tellings.get(k);
+        match telling.fixed {
+            Some(element) => element,
+            None => {
+                let vars = view.vars();
+                let lines = view.props().as_slice();
+                let count = vars.len();
+                let seen = &places[..count];
+                let marks = tables.marks.as_slice();
+                let counts = telling.counts.as_slice();
+                prop_join(&tables.operations, vars, lines, marks, counts, tables.bottom, seen)
+            }
+        }
     }
 }
