@@ -26,13 +26,13 @@ pub none_given : (m : Merge) (f : ℕ → Viewpoint → ℕ) (row : List ℕ) �
 none_given m f row = record { given = λ v under. absurd (omega arith) }
 
 -- digits by their sizes
-digits_from : (sizes row : List ℕ) → length row ≡ length sizes → ((k : ℕ) → k < length sizes → get_or row k 0 < get_or sizes k 0) → AreDigits sizes row
+pub digits_from : (sizes row : List ℕ) → length row ≡ length sizes → ((k : ℕ) → k < length sizes → get_or row k 0 < get_or sizes k 0) → AreDigits sizes row
 digits_from [] [] e h = tt
 digits_from [] (d ∷ row) e h = absurd (omega arith)
 digits_from (s ∷ sizes) [] e h = absurd (omega arith)
 digits_from (s ∷ sizes) (d ∷ row) e h = (h 0 (omega arith), digits_from sizes row (omega arith) (λ k low. h (suc k) (omega arith)))
 
-part_size : (m : Merge) (k : ℕ) → k < length m.viewpoints → get_or (sizes (parts_of m)) k 0 ≡ size (viewpoint_at m k).lattice.algebra
+pub part_size : (m : Merge) (k : ℕ) → k < length m.viewpoints → get_or (sizes (parts_of m)) k 0 ≡ size (viewpoint_at m k).lattice.algebra
 part_size m k low =
     get_or-map size (parts_of m) k nobody.lattice.algebra 0 (omega (arith, length-map m.viewpoints (λ (p : Viewpoint). p.lattice.algebra)))
     ∙ ap size (get_or-map (λ (p : Viewpoint). p.lattice.algebra) m.viewpoints k nobody nobody.lattice.algebra low)

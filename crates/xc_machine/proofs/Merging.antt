@@ -1,6 +1,6 @@
 -- Viewpoints and their tables.
-use Rattle.std.proofs.Common.{◌≡◌, ℕ, suc, ◌+◌, ◌<◌, ◌≤◌, true, false, nat_lt, List, [], ◌∷◌, ◌++◌, length, map, get_or, take, Option, Some, None, refl, sym, ◌∙◌, ap, subst, inl, inr, arith}
-use Rattle.std.proofs.lemmas.Bool.{cases_eq, lt-ltb, le-ltb}
+use Rattle.std.proofs.Common.{◌≡◌, ℕ, suc, ◌+◌, ◌<◌, ◌≤◌, true, false, nat_lt, eqb, List, [], ◌∷◌, ◌++◌, length, map, get_or, take, Option, Some, None, refl, sym, ◌∙◌, ap, subst, inl, inr, arith}
+use Rattle.std.proofs.lemmas.Bool.{cases_eq, lt-ltb, le-ltb, ne_eqb}
 use Rattle.std.proofs.lemmas.List.{length_push, get_or_append_left, get_or_push, get_or_read, length-map, get_or-map, same_lists}
 use Rattle.xc_theory.specs.Codes.{total, digits, AreDigits}
 use Rattle.xc_theory.specs.Lattices.{LatticeData, size}
@@ -18,7 +18,9 @@ use Rattle.xc_sigmap.specs.declared.sigmap.SigMap.{SigMap}
 use Rattle.xc_merge.specs.Merges.{Merge, Viewpoint, nobody, viewpoint_at, parts_of, names_of_parts}
 use Rattle.xc_merge.specs.Merging.{viewpoint_of, merge_in}
 use Rattle.xc_merge.specs.Projections.{states_of, row_of, row_seen, place_seen, projection}
-use Rattle.xc_merge.specs.MergedFrames.{is_initial_for}
+use Rattle.xc_merge.specs.MergedFrames.{is_initial_for, initials_of}
+use Rattle.xc_merge.specs.Faults.{all_faults, merge_fault}
+use Rattle.xc_merge.specs.declared.fault.MergeFault.TheVariants.{Elements, NoInitial, Initial}
 use Rattle.xc_expr.specs.Tests.{holds_at}
 use Rattle.xc_view.specs.Views.{value_of as view_of}
 use Rattle.xc_expr.specs.declared.domain.Domain.{Domain}
@@ -120,3 +122,25 @@ initial_for_is plan v s p row e h =
     let same : row_seen plan v p (row_of plan s) ≡ row_seen plan v p row = ap (row_seen plan v p) (sym e) in
     let digits_ : AreDigits (sizes_of p.view.vars) (row_seen plan v p (row_of plan s)) = rw same h in
     ap (holds_at p.view.init) (sym same ∙ sym (row_back p.view (row_seen plan v p (row_of plan s)) (projection plan v p s) digits_ refl))
+
+-- the places that are read at a state
+pub row_read : (plan : MapValue) (vars : List Domain) (places : List ℕ) (count s : ℕ) → vars ≡ plan.vars → count ≡ length vars → take (length vars) places ≡ digits (sizes_of vars) s → take count places ≡ row_of plan s
+row_read plan vars places count s e f known = ap (λ (n : ℕ). take n places) f ∙ known ∙ ap (λ (some : List Domain). digits (sizes_of some) s) e
+
+-- too many elements
+pub too_large : (m : Merge) (size : ℕ) → all_faults m ≡ [] → size ≡ total (sizes (parts_of m)) → 4096 < size → merge_fault m ≡ Some (Elements size)
+too_large m size none e high = rw (none, sym e, lt-ltb 4096 size high) refl
+
+-- none initial, or too many
+pub no_initial : (m : Merge) (count : ℕ) → all_faults m ≡ [] → total (sizes (parts_of m)) ≤ 4096 → count ≡ length (initials_of m) → count ≡ 0 → merge_fault m ≡ Some NoInitial
+no_initial m count none low e zero_is = rw (none, le-ltb 4096 (total (sizes (parts_of m))) low, sym e, zero_is) refl
+
+pub many_initial : (m : Merge) (count : ℕ) → all_faults m ≡ [] → total (sizes (parts_of m)) ≤ 4096 → count ≡ length (initials_of m) → 4096 < count → merge_fault m ≡ Some (Initial count)
+many_initial m count none low e high =
+    let apart : eqb count 0 ≡ false = ne_eqb count 0 (λ same. omega arith) in
+    rw (none, le-ltb 4096 (total (sizes (parts_of m))) low, sym e, apart, lt-ltb 4096 count high) refl
+
+pub no_fault : (m : Merge) (count : ℕ) → all_faults m ≡ [] → total (sizes (parts_of m)) ≤ 4096 → count ≡ length (initials_of m) → 0 < count → count ≤ 4096 → merge_fault m ≡ None
+no_fault m count none low e some few =
+    let apart : eqb count 0 ≡ false = ne_eqb count 0 (λ same. omega arith) in
+    rw (none, le-ltb 4096 (total (sizes (parts_of m))) low, sym e, apart, le-ltb 4096 count few) refl

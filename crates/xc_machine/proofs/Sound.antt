@@ -133,3 +133,14 @@ pub rest_some : (m : MapValue) (depth : ℕ) → maps.is_sound m ≡ true → 0 
 rest_some m depth h =
     let some : 0 < total (sizes_of m.vars) = omega (arith, some_states m h) in
     (positive_factors (total (take depth (sizes_of m.vars))) (total (drop depth (sizes_of m.vars))) (subst (λ (n : ℕ). 0 < n) (total_split (sizes_of m.vars) depth) some)).1
+
+-- the same of fit variables
+pub value_few : (vars : List Domain) (x : ℕ) (d : Domain) → are_fit vars ≡ true → x < length vars → d ≡ get_or vars x d → length d.values ≤ 16
+value_few vars x d fit low is =
+    let there : is_domain d ≡ true = passes is_domain vars x d (domains_of vars fit) low is in
+    leb-true (length d.values) 16 (and_parts _ _ (and_parts _ _ there).0).1
+
+pub rest_positive : (vars : List Domain) (depth : ℕ) → are_fit vars ≡ true → 0 < total (drop depth (sizes_of vars))
+rest_positive vars depth fit =
+    let some : 0 < total (sizes_of vars) = omega (arith, total_some vars (domains_of vars fit)) in
+    (positive_factors (total (take depth (sizes_of vars))) (total (drop depth (sizes_of vars))) (subst (λ (n : ℕ). 0 < n) (total_split (sizes_of vars) depth) some)).1

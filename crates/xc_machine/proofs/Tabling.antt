@@ -1,7 +1,8 @@
 -- What is worked out of a viewpoint is what its tables are to hold.
-use Rattle.std.proofs.Common.{◌≡◌, ℕ, zero, suc, ◌+◌, ◌<◌, ◌≤◌, ◌==◌, cond, Bool, true, false, List, [], ◌∷◌, ◌++◌, length, map, get_or, slice_index, take, drop, Option, Some, None, is_some, refl, sym, ◌∙◌, ap, subst, inl, inr, arith}
+use Rattle.std.proofs.Common.{◌≡◌, ℕ, zero, suc, ◌+◌, ◌<◌, ◌≤◌, ◌==◌, not, cond, Bool, true, false, List, [], ◌∷◌, ◌++◌, length, map, get_or, slice_index, take, drop, Option, Some, None, is_some, refl, sym, ◌∙◌, ap, subst, inl, inr, arith}
 use Rattle.std.proofs.Math.ListN.{set}
 use Rattle.std.specs.List.{list_all, filter, range_with_len}
+use Rattle.std.specs.Str.{bytes_eq}
 use Rattle.std.proofs.lemmas.Bool.{and_parts, cases_eq, true≢false, leb-true, ltb-true}
 use Rattle.std.proofs.lemmas.List.{length-take-le, length_push, get_or-take, get_or_append_left, get_or_push, get_or_read, get_or-set_same, get_or-set_other, length-map, drop_more, length-set}
 use Rattle.std.proofs.lemmas.List.Sums.{prefix_len-le-length}
@@ -24,7 +25,7 @@ use Rattle.xc_sigmap.specs.declared.parts.Stutter.{Stutter}
 use Rattle.xc_sigmap.specs.declared.parts.Tell.{Tell}
 use Rattle.xc_merge.specs.Merges.{Viewpoint}
 use Rattle.xc_merge.specs.Projections.{line_for, sends, carried_word, carried_place, source, source_in, carried, carried_in}
-use Rattle.xc_merge.specs.MergedFrames.{line_of}
+use Rattle.xc_merge.specs.MergedFrames.{line_of, stutter_words}
 use Rattle.xc_merge.specs.Pieces.{weight, mark, counts_for, counts_by, constant_told, fixed_by}
 use Rattle.xc_merge.specs.Faults.{is_fed, is_fed_by, carries_all}
 use Rattle.xc_machine.specs.declared.tables.Feed.{Feed}
@@ -36,11 +37,11 @@ use Rattle.xc_machine.proofs.Faultless.{found_passes}
 use Rattle.xc_machine.proofs.Joining.{passes}
 use Rattle.xc_machine.proofs.Seeing.{values_few}
 use Rattle.xc_machine.proofs.Sound.{map_parts}
-use Rattle.xc_machine.proofs.Stepping.{map_map}
+use Rattle.xc_machine.proofs.Stepping.{map_map, known_are}
 
 -- the place of a word among few values is small
 pub place_few : (values : List (List ℕ)) (word : List ℕ) → length values ≤ 16 → place_of values word < 256
-place_few values word h = omega (arith, prefix_len-le-length _ values)
+place_few values word h = omega (arith, prefix_len-le-length (λ x. not (bytes_eq word x)) values)
 
 -- a variable of a map has few values
 pub map_values_few : (m : MapValue) (x : ℕ) → maps.is_sound m ≡ true → x < length m.vars → length (values_at m.vars x) ≤ 16
@@ -193,3 +194,21 @@ among_at names (y ∷ lines) v (suc i) x h low is e =
 pub stutter_among : (names : List (List ℕ)) (lines : List Stutter) (v i : ℕ) (x : Stutter) → list_all (is_among names) (stutters_from v lines 0) ≡ true → i < length lines → x ≡ get_or lines i x → (x.viewpoint == v) ≡ true → is_among names x.value ≡ true
 unfolding stutters_from
 stutter_among names lines v i x h low is e = among_at names lines v i x h low is e
+
+pub stutters_all : (plan : MapValue) (v : ℕ) (lines : List Stutter) → lines ≡ plan.stutters → stutters_from v lines 0 ≡ stutter_words plan v
+unfolding stutters_from
+stutters_all plan v lines e = ap (λ (ls : List Stutter). map (λ (l : Stutter). l.value) (filter (λ (l : Stutter). l.viewpoint == v) ls)) e
+
+-- of two lists that pass together the first passes, and so does the second
+pub all_left : (p : List ℕ → Bool) (xs ys : List (List ℕ)) → list_all p (xs ++ ys) ≡ true → list_all p xs ≡ true
+all_left p [] ys h = refl
+all_left p (x ∷ xs) ys h = let two = and_parts (p x) (list_all p (xs ++ ys)) h in rw two.0 (all_left p xs ys two.1)
+
+pub all_right : (p : List ℕ → Bool) (xs ys : List (List ℕ)) → list_all p (xs ++ ys) ≡ true → list_all p ys ≡ true
+all_right p [] ys h = h
+all_right p (x ∷ xs) ys h = all_right p xs ys (and_parts (p x) (list_all p (xs ++ ys)) h).1
+
+-- the elements of words that are known
+pub codes_of_words : {X : Type 0} (n : ℕ) (names : List (List ℕ)) (word : X → List ℕ) (items : List X) (codes : List ℕ) → length names ≡ n → list_all (is_among names) (map word items) ≡ true → codes ≡ map (λ x. place_of names (word x)) items → AreWeights n codes
+codes_of_words n names word items codes e known is =
+    codes_within n codes (map (place_of names) (map word items)) (subst (λ (m : ℕ). AreElements m (map (place_of names) (map word items))) e (known_are names (map word items) known)) (is ∙ sym (map_map (place_of names) word items))

@@ -31,7 +31,8 @@ fn tables_of(
     let mut tables = List::new(alloc);
     for v in 0..views.len() {
         let pair = views.get(v);
-        tables.push(tabulate(alloc, sigmap, v, &pair.0, &pair.1)?)?;
+        let table = tabulate(alloc, sigmap, v, &pair.0, &pair.1)?;
+        tables.push(table)?;
     }
     Ok(tables)
 }
@@ -116,6 +117,7 @@ impl Merged {
     pub(crate) fn part_names(&self, alloc: Global) -> Result<List<List<Word>>, Memory>
         ensures { IfOk result (λ names. names ≡ names_of_parts (merged_of self.now)) }
     {
-        names_of(alloc, self.views.as_slice())
+        let names = names_of(alloc, self.views.as_slice())?;
+        Ok(names)
     }
 }

@@ -1,15 +1,20 @@
 //! The merged machine of several viewpoints: its states, its steps and its propositions, asked one at a time.
 #![tactic(auto)]
 
+mod codes;
+mod digits;
 mod elements;
 mod feeds;
 mod gathering;
 mod initials;
 mod joins;
 mod judgement;
+mod machine;
 mod merged;
 mod seen;
 mod stuttering;
 mod tables;
 mod tabulate;
 mod tellings;
+
+pub use machine::Machine;

@@ -163,7 +163,8 @@ impl Machine {
         ensures below { result < (product (parts_of (merge_of self.now))).size }
     {
         let digits = self.merged.step_digits(s, t);
-        self.product.code(&digits[..self.merged.views.len()])
+        let row = &digits[..self.merged.views.len()];
+        self.product.code(row)
     }
 
     /// The value of a proposition of the map at a state.
@@ -174,7 +175,8 @@ impl Machine {
         ensures below { result < (product (parts_of (merge_of self.now))).size }
     {
         let digits = self.merged.prop_digits(usize::from(p), s);
-        self.product.code(&digits[..self.merged.views.len()])
+        let row = &digits[..self.merged.views.len()];
+        self.product.code(row)
     }
 
     /// Whether a state is initial.

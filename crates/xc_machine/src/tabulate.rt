@@ -33,12 +33,15 @@ pub(crate) fn tabulate(
     is_good(lattice);
     let operations = lattice.any(alloc)?;
     let bottom = lattice.bottom();
-    let feeds = feeds_of(alloc, sigmap, number, view.vars())?;
-    let weights = command_codes(alloc, lattice, view.commands().as_slice())?;
-    let marks = line_codes(alloc, lattice, view.props().as_slice())?;
+    let vars = view.vars();
+    let commands = view.commands().as_slice();
+    let lines = view.props().as_slice();
+    let stutters = sigmap.stutters().as_slice();
+    let feeds = feeds_of(alloc, sigmap, number, vars)?;
+    let weights = command_codes(alloc, lattice, commands)?;
+    let marks = line_codes(alloc, lattice, lines)?;
     let tellings = tellings_of(alloc, sigmap, number, view, lattice)?;
-    let lines = sigmap.stutters().as_slice();
-    let stutter = stutter_of(&operations, lattice, lines, number, bottom);
+    let stutter = stutter_of(&operations, lattice, stutters, number, bottom);
     Ok(Tables {
         operations,
         bottom,
