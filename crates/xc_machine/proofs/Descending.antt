@@ -15,7 +15,7 @@ use Rattle.xc_view.specs.Meaning.{row_at}
 use Rattle.xc_sigmap.specs.MapFiles.{MapValue}
 use Rattle.xc_merge.specs.Merges.{Merge, Viewpoint, viewpoint_at}
 use Rattle.xc_merge.specs.Projections.{states_of, row_of, row_seen, place_seen, projection, source, carried}
-use Rattle.xc_merge.specs.MergedFrames.{is_initial_for, is_merged_initial}
+use Rattle.xc_merge.specs.MergedFrames.{is_initial_for, is_merged_initial, initials_of}
 use Rattle.xc_machine.specs.declared.judgement.Judgement.{Judgement}
 use Rattle.xc_machine.specs.declared.judgement.Judgement.TheVariants.{Holds, Fails, Open}
 use Rattle.xc_machine.specs.declared.tables.Feed.{Feed}
@@ -249,3 +249,14 @@ states_more old before new first state low e f =
     let end : first + (state - first) ≡ state = omega arith in
     f ∙ ap (λ (xs : List ℕ). xs ++ state ∷ []) e ∙ append_assoc old (range_with_len first (state - first)) (state ∷ [])
     ∙ ap (λ (xs : List ℕ). old ++ xs) (ap (λ (n : ℕ). range_with_len first (state - first) ++ n ∷ []) (sym end) ∙ sym (range_end first (state - first)) ∙ ap (range_with_len first) (sym more))
+
+-- all states are looked at
+pub initials_all : (m : Merge) → initials_below m (states_of m.plan) ≡ initials_of m
+unfolding initials_below initials_of
+initials_all m = refl
+
+pub found_count : (m : Merge) (found : Found) → IsFound m (states_of m.plan) found → found.count ≡ length (initials_of m)
+found_count m found h = h.count_is ∙ ap length (initials_all m)
+
+pub found_states : (m : Merge) (found : Found) → IsFound m (states_of m.plan) found → found.count ≤ 4096 → found.states ≡ initials_of m
+found_states m found h few = h.listed few ∙ initials_all m

@@ -73,3 +73,7 @@ pub good_at : (sigmap : SigMap) (views : List (View × Lattice)) (v : ℕ) (pair
 good_at sigmap views v pair low is good =
     let here : v < length views = omega (arith, viewpoint_count sigmap views) in
     subst (λ (p : Viewpoint). IsGood p.lattice) (sym (viewpoint_is sigmap views v pair here is)) good
+
+-- each viewpoint has tables
+pub tables_count : (sigmap : SigMap) (views : List (View × Lattice)) (tables : List Tables) (v : ℕ) → length tables ≡ length views → v < length (merge_in sigmap views).viewpoints → v < length tables
+tables_count sigmap views tables v e low = omega (arith, viewpoint_count sigmap views)

@@ -10,3 +10,5 @@ pub mod Tabling
 pub mod Merging
 pub mod Giving
 pub mod Coding
+pub mod Encoding
+pub mod Framing

@@ -28,6 +28,9 @@ use Rattle.xc_machine.proofs.Joining.{digits_count}
 use Rattle.xc_machine.specs.Tabled.{AreTables, AreWeights, IsGood}
 use Rattle.xc_machine.specs.Gathering.{AreTabled, operations, names_in}
 use Rattle.xc_machine.specs.declared.tables.Tables.{Tables}
+use Rattle.xc_machine.specs.Descent.{IsFound}
+use Rattle.xc_machine.specs.declared.initials.Found.{Found}
+use Rattle.xc_machine.proofs.Descending.{found_count}
 use Rattle.xc_machine.proofs.Seeing.{item}
 use Rattle.xc_machine.proofs.Stepping.{map_map, row_back}
 
@@ -140,7 +143,8 @@ many_initial m count none low e high =
     let apart : eqb count 0 ≡ false = ne_eqb count 0 (λ same. omega arith) in
     rw (none, le-ltb 4096 (total (sizes (parts_of m))) low, sym e, apart, lt-ltb 4096 count high) refl
 
-pub no_fault : (m : Merge) (count : ℕ) → all_faults m ≡ [] → total (sizes (parts_of m)) ≤ 4096 → count ≡ length (initials_of m) → 0 < count → count ≤ 4096 → merge_fault m ≡ None
-no_fault m count none low e some few =
-    let apart : eqb count 0 ≡ false = ne_eqb count 0 (λ same. omega arith) in
-    rw (none, le-ltb 4096 (total (sizes (parts_of m))) low, sym e, apart, le-ltb 4096 count few) refl
+pub no_fault : (m : Merge) (found : Found) → all_faults m ≡ [] → total (sizes (parts_of m)) ≤ 4096 → IsFound m (states_of m.plan) found → (found.count ≡ 0 → ⊥) → found.count ≤ 4096 → merge_fault m ≡ None
+no_fault m found none low h some few =
+    let e : found.count ≡ length (initials_of m) = found_count m found h in
+    let apart : eqb found.count 0 ≡ false = ne_eqb found.count 0 some in
+    rw (none, le-ltb 4096 (total (sizes (parts_of m))) low, sym e, apart, le-ltb 4096 found.count few) refl

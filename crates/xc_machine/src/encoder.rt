@@ -21,8 +21,10 @@ impl Machine {
         ensures source { result ≡ source (merge_of self.now).plan v (variable_at (viewpoint_at (merge_of self.now) v).view x) }
         ensures within { result < length (merge_of self.now).plan.vars }
     {
-        let tables = self.merged.tables.get(usize::from(v));
-        let feed = tables.feeds.get(usize::from(x));
+        let number = usize::from(v);
+        let tables = self.merged.tables.get(number);
+        let place = usize::from(x);
+        let feed = tables.feeds.get(place);
         feed.source
     }
 
@@ -35,9 +37,12 @@ impl Machine {
         ensures within { result < length (values_at (viewpoint_at (merge_of self.now) v).view.vars x) }
     {
         self.merged.sigmap.is_sound();
-        let tables = self.merged.tables.get(usize::from(v));
-        let feed = tables.feeds.get(usize::from(x));
-        feed.places[usize::from(m)]
+        let number = usize::from(v);
+        let tables = self.merged.tables.get(number);
+        let place = usize::from(x);
+        let feed = tables.feeds.get(place);
+        let value = usize::from(m);
+        feed.places[value]
     }
 
     /// The element of a command's value.
@@ -47,8 +52,10 @@ impl Machine {
         ensures element { result ≡ weight (viewpoint_at (merge_of self.now) v) (command_at (viewpoint_at (merge_of self.now) v).view c) }
         ensures within { result < size (viewpoint_at (merge_of self.now) v).lattice.algebra }
     {
-        let tables = self.merged.tables.get(usize::from(v));
-        *tables.weights.get(usize::from(c))
+        let number = usize::from(v);
+        let tables = self.merged.tables.get(number);
+        let place = usize::from(c);
+        *tables.weights.get(place)
     }
 
     /// The element of the value of a proposition's line.
@@ -58,8 +65,10 @@ impl Machine {
         ensures element { result ≡ mark (viewpoint_at (merge_of self.now) v) (line_at (viewpoint_at (merge_of self.now) v).view l) }
         ensures within { result < size (viewpoint_at (merge_of self.now) v).lattice.algebra }
     {
-        let tables = self.merged.tables.get(usize::from(v));
-        *tables.marks.get(usize::from(l))
+        let number = usize::from(v);
+        let tables = self.merged.tables.get(number);
+        let place = usize::from(l);
+        *tables.marks.get(place)
     }
 
     /// Whether a line counts for what a viewpoint tells of a proposition of the map.
@@ -69,9 +78,12 @@ impl Machine {
         requires prop { p < length (merge_of self.now).plan.props }
         ensures { result ≡ counts (merge_of self.now).plan v (line_at (viewpoint_at (merge_of self.now) v).view l) p }
     {
-        let tables = self.merged.tables.get(usize::from(v));
-        let telling = tables.tellings.get(usize::from(p));
-        *telling.counts.get(usize::from(l))
+        let number = usize::from(v);
+        let tables = self.merged.tables.get(number);
+        let prop = usize::from(p);
+        let telling = tables.tellings.get(prop);
+        let place = usize::from(l);
+        *telling.counts.get(place)
     }
 
     /// The element that a viewpoint tells of a proposition of the map everywhere, where it tells a constant.
@@ -81,8 +93,10 @@ impl Machine {
         ensures element { result ≡ fixed (merge_of self.now).plan v (viewpoint_at (merge_of self.now) v) p }
         ensures within { IfSome result (λ c. c < size (viewpoint_at (merge_of self.now) v).lattice.algebra) }
     {
-        let tables = self.merged.tables.get(usize::from(v));
-        let telling = tables.tellings.get(usize::from(p));
+        let number = usize::from(v);
+        let tables = self.merged.tables.get(number);
+        let prop = usize::from(p);
+        let telling = tables.tellings.get(prop);
         telling.fixed
     }
 
@@ -92,9 +106,10 @@ impl Machine {
         ensures element { result ≡ stutter (merge_of self.now).plan v (viewpoint_at (merge_of self.now) v) }
         ensures within { result < size (viewpoint_at (merge_of self.now) v).lattice.algebra }
     {
-        let pair = self.merged.views.get(usize::from(v));
+        let number = usize::from(v);
+        let pair = self.merged.views.get(number);
         is_good(&pair.1);
-        let tables = self.merged.tables.get(usize::from(v));
+        let tables = self.merged.tables.get(number);
         tables.stutter
     }
 }

@@ -4,11 +4,13 @@
 mod codes;
 mod digits;
 mod elements;
+mod encoder;
 mod feeds;
 mod gathering;
 mod initials;
 mod joins;
 mod judgement;
+mod laws;
 mod machine;
 mod merged;
 mod seen;
