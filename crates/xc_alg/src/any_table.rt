@@ -14,11 +14,12 @@ pub enum AnyTable {
 }
 
 impl AnyTable {
-    ghost use Rattle.xc_alg.specs.AnyTables.{lattice_in_any};
+    ghost use Rattle.xc_alg.specs.AnyTables.{lattice_in_any, room_of};
 
-    /// A table of the same lattice with memory of its own.
+    /// A table of the same lattice and the same room with memory of its own.
     pub fn copy(&self, alloc: Global) -> Result<AnyTable, AllocError>
-        ensures { IfOk result (λ table. lattice_in_any table ≡ lattice_in_any self.now) }
+        ensures same { IfOk result (λ table. lattice_in_any table ≡ lattice_in_any self.now) }
+        ensures room { IfOk result (λ table. room_of table ≡ room_of self.now) }
     {
         match self {
             AnyTable::T4(table) => Ok(AnyTable::T4(*table)),

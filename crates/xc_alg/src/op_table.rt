@@ -7,7 +7,9 @@ ghost use Rattle.xc_alg.specs.Tables.{AreTablesOf, entry, lattice_in};
 
 use super::algebra::Algebra;
 
-/// The meets, joins and negations of a lawful lattice of `n` elements, two at least and `N` at most.
+/// The operations of one lawful lattice, to be looked up by codes.
+///
+/// It has `n` elements, at least two, and the table has room for `N`.
 #[derive(Clone, Copy)]
 pub struct OpTable<const N: usize> {
     n: u8,

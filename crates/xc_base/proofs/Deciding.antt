@@ -2,9 +2,9 @@
 use Rattle.std.proofs.Common.{◌≡◌, ℕ, Bool, true, false, cond, List, [], ◌∷◌, ◌++◌, Option, Some, None, Result, Ok, Err, refl, sym, ◌∙◌, ap, subst, append_assoc, ◌⊎◌, inl, inr}
 use Rattle.xc_base.specs.declared.fault.Part.{Part}
 use Rattle.xc_base.specs.declared.fault.FileFault.{FileFault}
-use Rattle.xc_base.specs.declared.fault.FileFault.TheVariants.{NotYet, NoStatement, Repeated, Unknown, Count, Missing}
+use Rattle.xc_base.specs.declared.fault.FileFault.TheVariants.{NoStatement, Repeated, Unknown, Count, Missing}
 use Rattle.xc_base.specs.Formats.{Format, Row, Excess, IsFaultless, HasFault, AreStatements, IsFirstFault}
-use Rattle.xc_base.specs.Formats.HasFault.{not_yet, no_statement, repeated, unknown, count}
+use Rattle.xc_base.specs.Formats.HasFault.{no_statement, repeated, unknown, count}
 use Rattle.xc_base.specs.Formats.AreStatements.{none, next}
 use Rattle.xc_base.specs.Formats.IsFirstFault.{in_row, lacking}
 use Rattle.xc_base.specs.Judging.{AreWhole, GivesStatements, GivesFaults, StatementsAreUnique, FirstFaultsAreUnique, AcceptedHasNoFault, EachIsJudged}
@@ -33,21 +33,17 @@ module _ {S V : Type 0} (format : Format S V) (decide : List S → List (List �
   unfolding statement_fault
   fault_is_count before number s e r u c = rw (r, u, c)
 
-  line_of-not_yet : (before : List S) (row : Row) → format.unready row.tokens ≡ true → line_of format decide before row ≡ Err (NotYet row.number)
+  line_of-none : (before : List S) (row : Row) → decide before row.tokens ≡ None → line_of format decide before row ≡ Err (NoStatement row.number)
   unfolding line_of
-  line_of-not_yet before row h = rw h
+  line_of-none before row h = rw h
 
-  line_of-none : (before : List S) (row : Row) → format.unready row.tokens ≡ false → decide before row.tokens ≡ None → line_of format decide before row ≡ Err (NoStatement row.number)
+  line_of-ok : (before : List S) (row : Row) (s : S) → decide before row.tokens ≡ Some s → statement_fault format before row.number s ≡ None → line_of format decide before row ≡ Ok s
   unfolding line_of
-  line_of-none before row y h = rw (y, h)
+  line_of-ok before row s h k = rw (h, k)
 
-  line_of-ok : (before : List S) (row : Row) (s : S) → format.unready row.tokens ≡ false → decide before row.tokens ≡ Some s → statement_fault format before row.number s ≡ None → line_of format decide before row ≡ Ok s
+  line_of-err : (before : List S) (row : Row) (s : S) (f : FileFault) → decide before row.tokens ≡ Some s → statement_fault format before row.number s ≡ Some f → line_of format decide before row ≡ Err f
   unfolding line_of
-  line_of-ok before row s y h k = rw (y, h, k)
-
-  line_of-err : (before : List S) (row : Row) (s : S) (f : FileFault) → format.unready row.tokens ≡ false → decide before row.tokens ≡ Some s → statement_fault format before row.number s ≡ Some f → line_of format decide before row ≡ Err f
-  unfolding line_of
-  line_of-err before row s f y h k = rw (y, h, k)
+  line_of-err before row s f h k = rw (h, k)
 
 -- a statement without a fault passes each test
 fault_none : (r u : Bool) (c : Option Excess) (n : ℕ) → cond r (Some (Repeated n)) (cond u (Some (Unknown n)) (excess_fault n c)) ≡ None → (r ≡ false) × (u ≡ false) × (c ≡ None)
@@ -62,25 +58,25 @@ some_same e = cc
 module _ {S V : Type 0} (format : Format S V) (decide : List S → List (List ℕ) → Option S) where
   -- the fault that a due statement has, by the outcomes of the tests
   fault_some :
-      (before : List S) (row : Row) (s : S) → format.unready row.tokens ≡ false → format.Due before row.tokens s
+      (before : List S) (row : Row) (s : S) → format.Due before row.tokens s
       → (r u : Bool) (c : Option Excess) → format.repeated before s ≡ r → format.unknown before s ≡ u → format.count before s ≡ c
       → (f : FileFault) → cond r (Some (Repeated row.number)) (cond u (Some (Unknown row.number)) (excess_fault row.number c)) ≡ Some f
       → HasFault format before row f
-  fault_some before row s y due true u c er eu ec f e = subst (HasFault format before row) (some_same e) (repeated s y due er)
-  fault_some before row s y due false true c er eu ec f e = subst (HasFault format before row) (some_same e) (unknown s y due er eu)
-  fault_some before row s y due false false (Some x) er eu ec f e = subst (HasFault format before row) (some_same e) (count s x y due er eu ec)
-  fault_some before row s y due false false None er eu ec f e = absurd (none_is_not f e)
+  fault_some before row s due true u c er eu ec f e = subst (HasFault format before row) (some_same e) (repeated s due er)
+  fault_some before row s due false true c er eu ec f e = subst (HasFault format before row) (some_same e) (unknown s due er eu)
+  fault_some before row s due false false (Some x) er eu ec f e = subst (HasFault format before row) (some_same e) (count s x due er eu ec)
+  fault_some before row s due false false None er eu ec f e = absurd (none_is_not f e)
 
-  due_is_faultless : (before : List S) (row : Row) (s : S) → format.unready row.tokens ≡ false → format.Due before row.tokens s → statement_fault format before row.number s ≡ None → IsFaultless format before row.tokens s
+  due_is_faultless : (before : List S) (row : Row) (s : S) → format.Due before row.tokens s → statement_fault format before row.number s ≡ None → IsFaultless format before row.tokens s
   unfolding statement_fault
-  due_is_faultless before row s y due e =
+  due_is_faultless before row s due e =
       let parts = fault_none (format.repeated before s) (format.unknown before s) (format.count before s) row.number e in
-      record { ready = y; due = due; first = parts.0; known = parts.1; few = parts.2 }
+      record { due = due; first = parts.0; known = parts.1; few = parts.2 }
 
-  due_has_fault : (before : List S) (row : Row) (s : S) (f : FileFault) → format.unready row.tokens ≡ false → format.Due before row.tokens s → statement_fault format before row.number s ≡ Some f → HasFault format before row f
+  due_has_fault : (before : List S) (row : Row) (s : S) (f : FileFault) → format.Due before row.tokens s → statement_fault format before row.number s ≡ Some f → HasFault format before row f
   unfolding statement_fault
-  due_has_fault before row s f y due e =
-      fault_some before row s y due (format.repeated before s) (format.unknown before s) (format.count before s) refl refl refl f e
+  due_has_fault before row s f due e =
+      fault_some before row s due (format.repeated before s) (format.unknown before s) (format.count before s) refl refl refl f e
 
 ok_same : {X Y : Type 0} {x y : X} → ◌≡◌ {A = Result X Y} (Ok x) (Ok y) → x ≡ y
 ok_same e = cc
@@ -93,43 +89,35 @@ ok_is_not x y e = cc
 
 -- rows judged by a function that decides
 module _ {S V : Type 0} (format : Format S V) (decide : List S → List (List ℕ) → Option S) (decides : Decides format decide) where
-  unless_ok : (before : List S) (row : Row) (s t : S) (o : Option FileFault) → format.unready row.tokens ≡ false → format.Due before row.tokens s → statement_fault format before row.number s ≡ o → unless o s ≡ Ok t → IsFaultless format before row.tokens t
-  unless_ok before row s t None y due e h = subst (IsFaultless format before row.tokens) (ok_same h) (due_is_faultless format decide before row s y due e)
-  unless_ok before row s t (Some f) y due e h = absurd (ok_is_not t f (sym h))
+  unless_ok : (before : List S) (row : Row) (s t : S) (o : Option FileFault) → format.Due before row.tokens s → statement_fault format before row.number s ≡ o → unless o s ≡ Ok t → IsFaultless format before row.tokens t
+  unless_ok before row s t None due e h = subst (IsFaultless format before row.tokens) (ok_same h) (due_is_faultless format decide before row s due e)
+  unless_ok before row s t (Some f) due e h = absurd (ok_is_not t f (sym h))
 
-  unless_err : (before : List S) (row : Row) (s : S) (f : FileFault) (o : Option FileFault) → format.unready row.tokens ≡ false → format.Due before row.tokens s → statement_fault format before row.number s ≡ o → unless o s ≡ Err f → HasFault format before row f
-  unless_err before row s f None y due e h = absurd (ok_is_not s f h)
-  unless_err before row s f (Some g) y due e h = subst (HasFault format before row) (err_same h) (due_has_fault format decide before row s g y due e)
+  unless_err : (before : List S) (row : Row) (s : S) (f : FileFault) (o : Option FileFault) → format.Due before row.tokens s → statement_fault format before row.number s ≡ o → unless o s ≡ Err f → HasFault format before row f
+  unless_err before row s f None due e h = absurd (ok_is_not s f h)
+  unless_err before row s f (Some g) due e h = subst (HasFault format before row) (err_same h) (due_has_fault format decide before row s g due e)
 
-  judged_ok : (before : List S) (row : Row) (t : S) (o : Option S) → format.unready row.tokens ≡ false → decide before row.tokens ≡ o → judged format before row.number o ≡ Ok t → IsFaultless format before row.tokens t
-  judged_ok before row t None y e h = absurd (ok_is_not t (NoStatement row.number) (sym h))
-  judged_ok before row t (Some s) y e h = unless_ok before row s t (statement_fault format before row.number s) y (decides.sound before row.tokens s e) refl h
+  judged_ok : (before : List S) (row : Row) (t : S) (o : Option S) → decide before row.tokens ≡ o → judged format before row.number o ≡ Ok t → IsFaultless format before row.tokens t
+  judged_ok before row t None e h = absurd (ok_is_not t (NoStatement row.number) (sym h))
+  judged_ok before row t (Some s) e h = unless_ok before row s t (statement_fault format before row.number s) (decides.sound before row.tokens s e) refl h
 
-  judged_err : (before : List S) (row : Row) (f : FileFault) (o : Option S) → format.unready row.tokens ≡ false → decide before row.tokens ≡ o → judged format before row.number o ≡ Err f → HasFault format before row f
-  judged_err before row f None y e h =
+  judged_err : (before : List S) (row : Row) (f : FileFault) (o : Option S) → decide before row.tokens ≡ o → judged format before row.number o ≡ Err f → HasFault format before row f
+  judged_err before row f None e h =
       subst (HasFault format before row) (err_same h)
-      (no_statement y (λ s due. none_is_not s (sym e ∙ decides.complete before row.tokens s due)))
-  judged_err before row f (Some s) y e h = unless_err before row s f (statement_fault format before row.number s) y (decides.sound before row.tokens s e) refl h
-
-  ready_ok : (before : List S) (row : Row) (s : S) (b : Bool) → format.unready row.tokens ≡ b → cond b (Err (NotYet row.number)) (judged format before row.number (decide before row.tokens)) ≡ Ok s → IsFaultless format before row.tokens s
-  ready_ok before row s true y h = absurd (ok_is_not s (NotYet row.number) (sym h))
-  ready_ok before row s false y h = judged_ok before row s (decide before row.tokens) y refl h
-
-  ready_err : (before : List S) (row : Row) (f : FileFault) (b : Bool) → format.unready row.tokens ≡ b → cond b (Err (NotYet row.number)) (judged format before row.number (decide before row.tokens)) ≡ Err f → HasFault format before row f
-  ready_err before row f true y h = subst (HasFault format before row) (err_same h) (not_yet y)
-  ready_err before row f false y h = judged_err before row f (decide before row.tokens) y refl h
+      (no_statement (λ s due. none_is_not s (sym e ∙ decides.complete before row.tokens s due)))
+  judged_err before row f (Some s) e h = unless_err before row s f (statement_fault format before row.number s) (decides.sound before row.tokens s e) refl h
 
   pub line_sound : (before : List S) (row : Row) (s : S) → line_of format decide before row ≡ Ok s → IsFaultless format before row.tokens s
   unfolding line_of
-  line_sound before row s h = ready_ok before row s (format.unready row.tokens) refl h
+  line_sound before row s h = judged_ok before row s (decide before row.tokens) refl h
 
   line_fault_sound : (before : List S) (row : Row) (f : FileFault) → line_of format decide before row ≡ Err f → HasFault format before row f
   unfolding line_of
-  line_fault_sound before row f h = ready_err before row f (format.unready row.tokens) refl h
+  line_fault_sound before row f h = judged_err before row f (decide before row.tokens) refl h
 
   line_complete : (before : List S) (row : Row) (s : S) → IsFaultless format before row.tokens s → line_of format decide before row ≡ Ok s
   line_complete before row s h =
-      line_of-ok format decide before row s h.ready (decides.complete before row.tokens s h.due)
+      line_of-ok format decide before row s (decides.complete before row.tokens s h.due)
       (fault_is_none format decide before row.number s h.first h.known h.few)
 
   none_decided : (before : List S) (tokens : List (List ℕ)) (o : Option S) → decide before tokens ≡ o → ((s : S) → format.Due before tokens s → ⊥) → decide before tokens ≡ None
@@ -137,17 +125,16 @@ module _ {S V : Type 0} (format : Format S V) (decide : List S → List (List �
   none_decided before tokens (Some s) e not_due = absurd (not_due s (decides.sound before tokens s e))
 
   line_fault_complete : {f : FileFault} (before : List S) (row : Row) → HasFault format before row f → line_of format decide before row ≡ Err f
-  line_fault_complete before row (not_yet y) = line_of-not_yet format decide before row y
-  line_fault_complete before row (no_statement y not_due) =
-      line_of-none format decide before row y (none_decided before row.tokens (decide before row.tokens) refl not_due)
-  line_fault_complete before row (repeated s y due r) =
-      line_of-err format decide before row s (Repeated row.number) y (decides.complete before row.tokens s due)
+  line_fault_complete before row (no_statement not_due) =
+      line_of-none format decide before row (none_decided before row.tokens (decide before row.tokens) refl not_due)
+  line_fault_complete before row (repeated s due r) =
+      line_of-err format decide before row s (Repeated row.number) (decides.complete before row.tokens s due)
       (fault_is_repeated format decide before row.number s r)
-  line_fault_complete before row (unknown s y due r u) =
-      line_of-err format decide before row s (Unknown row.number) y (decides.complete before row.tokens s due)
+  line_fault_complete before row (unknown s due r u) =
+      line_of-err format decide before row s (Unknown row.number) (decides.complete before row.tokens s due)
       (fault_is_unknown format decide before row.number s r u)
-  line_fault_complete before row (count s e y due r u c) =
-      line_of-err format decide before row s (Count row.number e.what e.found) y (decides.complete before row.tokens s due)
+  line_fault_complete before row (count s e due r u c) =
+      line_of-err format decide before row s (Count row.number e.what e.found) (decides.complete before row.tokens s due)
       (fault_is_count format decide before row.number s e r u c)
 
 -- What a list of rows is after the statements before it: the statements of all rows, and what they are a front of.

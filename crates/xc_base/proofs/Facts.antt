@@ -1,5 +1,5 @@
 -- Cutting, names, shelves and sinks at small cases whose values are known from outside.
-use Rattle.std.proofs.Common.{◌≡◌, ◌<◌, ℕ, true, false, List, [], ◌∷◌, ◌++◌, map, replicate, Some, None, Ok, Err, codes, get_or, ap, refl, arith}
+use Rattle.std.proofs.Common.{◌≡◌, ◌<◌, ℕ, true, false, List, [], ◌∷◌, ◌++◌, map, replicate, Some, None, Ok, Err, codes, get_or, length, ap, refl, arith}
 use Rattle.xc_base.specs.declared.fault.TextFault.TheVariants.{LongFile, BadByte, LongLine}
 use Rattle.xc_base.specs.declared.shelf.File.{File}
 use Rattle.xc_base.specs.declared.shelf.LoadFault.TheVariants as loads
@@ -10,8 +10,9 @@ use Rattle.xc_base.specs.Lines.{text_rows}
 use Rattle.xc_base.specs.Words.{is_word, is_name, is_file_word}
 use Rattle.xc_base.specs.Names.{is_among, has_twice, name_at, place_of, are_same}
 use Rattle.xc_base.specs.Canonical.{spaced}
+use Rattle.xc_base.specs.Fronts.{IsFront}
 use Rattle.xc_base.specs.Shelves.{held, has_risen, failed_after, fails_at, raised, IsLoaded, IsAbsentIfSteady}
-use Rattle.xc_base.specs.Sinks.{written_after, IsFront, AddsWhole, AddsPart, after_put, empty_sink}
+use Rattle.xc_base.specs.Sinks.{IsCalm, written_after, AddsWhole, AddsPart, AppendsFront, after_put, empty_sink}
 
 -- the texts of the tokens of a text's rows
 abbrev cut : List ℕ → List (List (List ℕ))
@@ -142,3 +143,14 @@ no_front h = let wrong : 98 ≡ 97 = ap (λ (bytes : List ℕ). get_or bytes 0 0
 
 pub whole : AddsWhole (codes "ab") (Some (codes "x")) (Some (codes "xab"))
 whole = refl
+
+-- where a writer's bytes are known: all of `ab` or none of it was appended, but not `ab` twice
+pub appended : AppendsFront (codes "ab") (Some (codes "x")) (Some (codes "xab")) × AppendsFront (codes "ab") (Some (codes "x")) (Some (codes "x"))
+appended = (record { keeps = omega arith; front = refl }, record { keeps = omega arith; front = refl })
+
+pub not_appended_twice : AppendsFront (codes "ab") (Some []) (Some (codes "abab")) → ⊥
+not_appended_twice h = let wrong : 4 ≡ 2 = ap (λ (bytes : List ℕ). length bytes) h.front in omega (arith, wrong)
+
+-- a fault that was counted is not calm
+pub not_calm : IsCalm (record { bytes = None; faults = 0; wants = 0 }) (record { bytes = None; faults = 1; wants = 0 }) → ⊥
+not_calm h = let wrong : 1 ≡ 0 = h.faults in omega (arith, wrong)

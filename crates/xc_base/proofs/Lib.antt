@@ -1,5 +1,6 @@
 pub mod CutLines
 pub mod CutTokens
+pub mod Fronts
 pub mod Loading
 pub mod Naming
 pub mod Operators

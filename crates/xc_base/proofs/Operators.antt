@@ -7,7 +7,7 @@ use Rattle.std.proofs.lemmas.List.{length-map}
 use Rattle.xc_base.specs.Lines.{texts}
 use Rattle.xc_base.specs.declared.lines.Lexeme.{Lexeme}
 use Rattle.xc_base.specs.Operators.{Front, behind, chain_step, chain_up_to, chain, chained, Shortens, Begins, IsSound}
-use Rattle.xc_base.proofs.Naming.{same_bytes, bytes_refl}
+use Rattle.xc_base.proofs.Naming.{same_bytes}
 
 -- the tokens are the token and what stands behind it
 pub behind_cut : (mark : List ℕ) (tokens more : List (List ℕ)) → behind mark tokens ≡ Some more → tokens ≡ mark ∷ more

@@ -1,17 +1,17 @@
--- Canonical texts: each line is a list of tokens, written out with as few blanks as they can have.
+-- Canonical texts: what is printed for lines that are given as lists of tokens.
 use Rattle.std.specs.Prelude.{ℕ, ◌+◌, Bool, true, false, ◌&&◌, ◌||◌, ◌==◌, not, nat_lt, nat_le, if◌then◌else◌, List, [], ◌∷◌, ◌++◌, length}
 use Rattle.std.specs.List.{list_all}
 use Rattle.xc_base.specs.Words.{is_within, is_word_byte, is_word}
 use Rattle.xc_base.specs.Text.{joins, joins_next}
 use Rattle.xc_base.specs.Formats.{Row}
 
--- one blank between two words that follow each other, and no other blanks
+-- tokens side by side, where a blank parts each word from a word behind it
 unfoldable pub spaced : List (List ℕ) → List ℕ
 spaced [] = []
 spaced (token ∷ []) = token
 spaced (token ∷ next ∷ more) = token ++ (if is_word token && is_word next then 32 ∷ [] else []) ++ spaced (next ∷ more)
 
--- the text of these lines, a line feed behind each
+-- the texts of these lines one after another, each ended by a line feed
 unfoldable pub canonical : List (List (List ℕ)) → List ℕ
 canonical [] = []
 canonical (tokens ∷ lines) = spaced tokens ++ 10 ∷ canonical lines

@@ -2,7 +2,7 @@
 use Rattle.std.specs.Prelude.{◌≡◌, ℕ, cond, List, [], ◌∷◌, ◌++◌, Option, Some, None, Result, Ok, Err}
 use Rattle.xc_base.specs.declared.fault.Part.{Part}
 use Rattle.xc_base.specs.declared.fault.FileFault.{FileFault}
-use Rattle.xc_base.specs.declared.fault.FileFault.TheVariants.{NotYet, NoStatement, Repeated, Unknown, Count, Missing}
+use Rattle.xc_base.specs.declared.fault.FileFault.TheVariants.{NoStatement, Repeated, Unknown, Count, Missing}
 use Rattle.xc_base.specs.declared.fault.Stop.{Stop}
 use Rattle.xc_base.specs.declared.fault.Stop.TheVariants.{File, Memory}
 use Rattle.xc_base.specs.Formats.{Format, Row, Excess}
@@ -33,7 +33,7 @@ judged format before number (Some s) = unless (statement_fault format before num
 
 -- what a row is after the statements before it: a faultless statement, or a fault
 unfoldable pub line_of : {S V : Type 0} → Format S V → (List S → List (List ℕ) → Option S) → List S → Row → Result S FileFault
-line_of format decide before row = cond (format.unready row.tokens) (Err (NotYet row.number)) (judged format before row.number (decide before row.tokens))
+line_of format decide before row = judged format before row.number (decide before row.tokens)
 
 abbrev pub on_ok : {S T : Type 0} → Result S FileFault → (S → Result T FileFault) → Result T FileFault
 on_ok (Ok s) next = next s

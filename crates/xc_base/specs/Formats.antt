@@ -3,7 +3,7 @@ use Rattle.std.specs.Prelude.{◌≡◌, ℕ, Bool, true, false, List, [], ◌�
 use Rattle.xc_base.specs.declared.fault.Counted.{Counted}
 use Rattle.xc_base.specs.declared.fault.Part.{Part}
 use Rattle.xc_base.specs.declared.fault.FileFault.{FileFault}
-use Rattle.xc_base.specs.declared.fault.FileFault.TheVariants.{NotYet, NoStatement, Repeated, Unknown, Count, Missing}
+use Rattle.xc_base.specs.declared.fault.FileFault.TheVariants.{NoStatement, Repeated, Unknown, Count, Missing}
 
 -- a line that has a token: its number, and the texts of its tokens
 pub record Row : Type 0 where
@@ -18,8 +18,6 @@ pub record Excess : Type 0 where
 -- A kind of file. S are its statements and V is what a file says. Statements are judged after the faultless ones
 -- before them, which are given in their order.
 pub record Format (S V : Type 0) : Type 1 where
-  -- the tokens have a form that is not read yet
-  pub unready : List (List ℕ) → Bool
   -- the tokens are this statement, and it is due there
   pub Due : List S → List (List ℕ) → S → Type 0
   -- it says again what may be said once
@@ -35,20 +33,18 @@ pub record Format (S V : Type 0) : Type 1 where
 
 -- the tokens are this statement, which is due after the ones before and has no fault
 pub record IsFaultless {S V : Type 0} (format : Format S V) (before : List S) (tokens : List (List ℕ)) (s : S) : Type 0 where
-  pub ready : format.unready tokens ≡ false
   pub due : format.Due before tokens s
   pub first : format.repeated before s ≡ false
   pub known : format.unknown before s ≡ false
   pub few : format.count before s ≡ None
 
--- The fault of a row after the statements before it: a form that is not read yet, then what is no statement, then what is said
--- again, then an unknown name, then a limit.
+-- The fault of a row after the statements before it: what is no statement, then what is said again, then an unknown name, then a
+-- limit.
 pub data HasFault {S V : Type 0} (format : Format S V) (before : List S) (row : Row) : FileFault → Type 0 where
-  not_yet : format.unready row.tokens ≡ true → HasFault format before row (NotYet row.number)
-  no_statement : format.unready row.tokens ≡ false → ((s : S) → format.Due before row.tokens s → ⊥) → HasFault format before row (NoStatement row.number)
-  repeated : (s : S) → format.unready row.tokens ≡ false → format.Due before row.tokens s → format.repeated before s ≡ true → HasFault format before row (Repeated row.number)
-  unknown : (s : S) → format.unready row.tokens ≡ false → format.Due before row.tokens s → format.repeated before s ≡ false → format.unknown before s ≡ true → HasFault format before row (Unknown row.number)
-  count : (s : S) (e : Excess) → format.unready row.tokens ≡ false → format.Due before row.tokens s → format.repeated before s ≡ false → format.unknown before s ≡ false → format.count before s ≡ Some e → HasFault format before row (Count row.number e.what e.found)
+  no_statement : ((s : S) → format.Due before row.tokens s → ⊥) → HasFault format before row (NoStatement row.number)
+  repeated : (s : S) → format.Due before row.tokens s → format.repeated before s ≡ true → HasFault format before row (Repeated row.number)
+  unknown : (s : S) → format.Due before row.tokens s → format.repeated before s ≡ false → format.unknown before s ≡ true → HasFault format before row (Unknown row.number)
+  count : (s : S) (e : Excess) → format.Due before row.tokens s → format.repeated before s ≡ false → format.unknown before s ≡ false → format.count before s ≡ Some e → HasFault format before row (Count row.number e.what e.found)
 
 -- after the statements before them the rows are these statements, one after another and each faultless
 pub data AreStatements {S V : Type 0} (format : Format S V) : List S → List Row → List S → Type 0 where

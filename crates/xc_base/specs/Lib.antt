@@ -2,6 +2,7 @@ pub mod Canonical
 pub mod Cutting
 pub mod Deciding
 pub mod Formats
+pub mod Fronts
 pub mod Judging
 pub mod Laws
 pub mod Lines

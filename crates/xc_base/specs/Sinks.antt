@@ -1,5 +1,6 @@
 -- What is known of a sink of bytes, and what writing does to it.
-use Rattle.std.specs.Prelude.{◌≡◌, ◌<◌, ◌≤◌, ℕ, ◌+◌, List, [], ◌++◌, take, length, Option, Some, None, option_map, Result, Ok, Err}
+use Rattle.std.specs.Prelude.{◌≡◌, ◌<◌, ℕ, ◌+◌, List, [], ◌++◌, take, length, Option, Some, None, option_map, Result, Ok, Err}
+use Rattle.xc_base.specs.Fronts.{IsFront}
 use Rattle.xc_base.specs.Shelves.{raised}
 use Rattle.xc_base.specs.declared.sink.SinkFault.{SinkFault}
 use Rattle.xc_base.specs.declared.sink.SinkFault.TheVariants.{Failed, Memory}
@@ -10,16 +11,16 @@ pub record Sunk : Type 0 where
   pub faults : ℕ
   pub wants : ℕ
 
+-- neither faults nor wants of memory were counted
+pub record IsCalm (old new : Sunk) : Type 0 where
+  pub faults : new.faults ≡ old.faults
+  pub wants : new.wants ≡ old.wants
+
 -- what a sink tells after a put of that piece, of which it took a front or nothing
 abbrev pub written_after : Option (List ℕ) → List ℕ → Result ℕ SinkFault → Option (List ℕ)
 written_after None piece result = None
 written_after (Some bytes) piece (Ok k) = Some (bytes ++ take k piece)
 written_after (Some bytes) piece (Err e) = Some bytes
-
--- new is old and a front of the text
-pub record IsFront (text old new : List ℕ) : Type 0 where
-  pub keeps : length old ≤ length new
-  pub front : new ≡ take (length new) (old ++ text)
 
 -- where bytes are told: the whole text is added; a front of it that lacks something; a front of it, maybe all; nothing
 abbrev pub AddsWhole : List ℕ → Option (List ℕ) → Option (List ℕ) → Type 0
@@ -37,6 +38,12 @@ AddsFront text (Some old) (Some new) = IsFront text old new
 
 abbrev pub AddsNothing : Option (List ℕ) → Option (List ℕ) → Type 0
 AddsNothing old new = new ≡ old
+
+-- where a writer's bytes are known: a front of the piece was appended, maybe all of it and maybe nothing
+abbrev pub AppendsFront : List ℕ → Option (List ℕ) → Option (List ℕ) → Type 0
+AppendsFront piece None new = Unit {0}
+AppendsFront piece (Some old) None = ⊥
+AppendsFront piece (Some old) (Some new) = IsFront piece old new
 
 -- what a sink in memory holds: the bytes written; how many it takes at a time; the numbers of the calls that are to
 -- fail; the number of the last call; and its two counts

@@ -36,10 +36,6 @@ pub enum FileFault {
         what: Counted,
         found: u64,
     },
-    /// The line has a form that is not read yet.
-    NotYet {
-        line: u32,
-    },
     /// No line is at fault, and the file lacks a part.
     Missing {
         part: Part,

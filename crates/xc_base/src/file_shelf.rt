@@ -77,10 +77,10 @@ impl<'a, R: Files> Shelf for FileShelf<'a, R> {
         ensures loaded { IfOk result (λ v. IsLoaded (unseen self.old.faults).told name.now limit v.items) }
         ensures failed { IsErrOf result LoadFault.Failed → HasRisen self.old.faults self.new.faults }
         ensures steady { IsErrOf result LoadFault.Failed → IsAbsentIfSteady (unseen self.old.faults).told name.now }
-        // Each load that gives no bytes is counted, whatever the cause, and no other; and no more bytes are given than asked for.
+        ensures size { IfOk result (λ v. vec_len v ≤ limit + 1) }
+        // each load that gives no bytes is counted, whatever the cause, and no other
         ensures each { OnErr result (self.new.faults ≡ raised self.old.faults) }
         ensures only { OnOk result (self.new.faults ≡ self.old.faults) }
-        ensures size { IfOk result (λ v. vec_len v ≤ limit + 1) }
     {
         let loaded = read_file(alloc, self.rt, name, limit);
         if loaded.is_err() {

@@ -1,4 +1,4 @@
-ghost use Rattle.std.specs.Prelude.{◌≡◌, ◌==◌, find, ◌<◌, ◌≤◌, ◌^◌, ◌∷◌, ◌++◌, [], ◌+◌, true, false, take, refl, IfOk, IfErr, IsErrOf, OnOk, OnErr, ◌↔◌};
+ghost use Rattle.std.specs.Prelude.{◌≡◌, ◌==◌, find, ◌<◌, ◌≤◌, ◌^◌, ◌∷◌, ◌++◌, [], ◌+◌, true, false, take, refl, IfOk, IfErr, IsErrOf, OnOk, OnErr, ◌↔◌, vec_len};
 ghost use Rattle.std.specs.List.{list_any};
 ghost use Rattle.std.specs.Option.{option_copied};
 ghost use Rattle.std.specs.Str.{bytes_eq};
@@ -86,6 +86,7 @@ impl MemoryShelf {
 fn first_bytes(alloc: Global, bytes: &Bytes, limit: usize) -> Result<Vec<u8>, LoadFault>
     requires { limit < 2 ^ 32 }
     ensures ok { IfOk result (λ v. v.items ≡ take (limit + 1) bytes.now) }
+    ensures size { IfOk result (λ v. vec_len v ≤ limit + 1) }
     ensures err { IfErr result (λ e. e ≡ LoadFault.Memory) }
 {
     let all = bytes.as_slice();
@@ -107,6 +108,7 @@ impl Shelf for MemoryShelf {
         ensures loaded { IfOk result (λ v. IsLoaded (shelved self.old).told name.now limit v.items) }
         ensures failed { IsErrOf result LoadFault.Failed → HasRisen (shelved self.old).faults (shelved self.new).faults }
         ensures steady { IsErrOf result LoadFault.Failed → IsAbsentIfSteady (shelved self.old).told name.now }
+        ensures size { IfOk result (λ v. vec_len v ≤ limit + 1) }
         // The load fails exactly where its number was given or the name is not held, unless there is no memory.
         ensures exact { IsErrOf result LoadFault.Failed → fails_at self.old name.now ≡ true }
         ensures fails { OnOk result (fails_at self.old name.now ≡ false) }

@@ -1,6 +1,6 @@
 ghost use Rattle.std.specs.Prelude.{◌≡◌, ◌<◌, ◌≤◌, ◌∷◌, ◌++◌, [], true, false, length, min, IfOk, IsErrOf, OnOk, OnErr};
 ghost use Rattle.xc_base.specs.Shelves.{HasRisen, fails_next};
-ghost use Rattle.xc_base.specs.Sinks.{written_after, empty_sink};
+ghost use Rattle.xc_base.specs.Sinks.{IsCalm, written_after, empty_sink};
 
 use crate::list::{Bytes, List};
 use crate::memory::Memory;
@@ -79,6 +79,9 @@ impl Sink for MemorySink {
         ensures want_counts { (sunk self.old).wants ≤ (sunk self.new).wants }
         ensures failed { IsErrOf result SinkFault.Failed → HasRisen (sunk self.old).faults (sunk self.new).faults }
         ensures wanted { IsErrOf result SinkFault.Memory → HasRisen (sunk self.old).wants (sunk self.new).wants }
+        ensures calm { OnOk result (IsCalm (sunk self.old) (sunk self.new)) }
+        ensures failed_alone { IsErrOf result SinkFault.Failed → (sunk self.new).wants ≡ (sunk self.old).wants }
+        ensures wanted_alone { IsErrOf result SinkFault.Memory → (sunk self.new).faults ≡ (sunk self.old).faults }
         // The put fails exactly where its number was given, and else takes as much as it may, unless there is no memory.
         ensures exact { IsErrOf result SinkFault.Failed → fails_next self.old.failing self.old.calls ≡ true }
         ensures fails { OnOk result (fails_next self.old.failing self.old.calls ≡ false) }

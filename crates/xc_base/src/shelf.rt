@@ -1,4 +1,4 @@
-ghost use Rattle.std.specs.Prelude.{◌≡◌, ◌<◌, ◌≤◌, ◌^◌, IfOk, IsErrOf};
+ghost use Rattle.std.specs.Prelude.{◌≡◌, ◌<◌, ◌≤◌, ◌^◌, ◌+◌, IfOk, IsErrOf, vec_len};
 ghost use Rattle.xc_base.specs.Shelves.{Shelved, told_after, IsLoaded, HasRisen, IsAbsentIfSteady, AreCounted};
 
 use crate::list::Bytes;
@@ -39,7 +39,8 @@ pub trait Shelf {
         ensures counts { (seen self.old).faults ≤ (seen self.new).faults }
         ensures loaded { IfOk result (λ v. IsLoaded (seen self.old).told name.now limit v.items) }
         ensures failed { IsErrOf result LoadFault.Failed → HasRisen (seen self.old).faults (seen self.new).faults }
-        ensures steady { IsErrOf result LoadFault.Failed → IsAbsentIfSteady (seen self.old).told name.now };
+        ensures steady { IsErrOf result LoadFault.Failed → IsAbsentIfSteady (seen self.old).told name.now }
+        ensures size { IfOk result (λ v. vec_len v ≤ limit + 1) };
 
     ghost counted: { (s : Self) → AreCounted (seen s) };
 }

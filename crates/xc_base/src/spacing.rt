@@ -1,7 +1,8 @@
-//! Canonical texts: tokens written out with as few blanks as they can have.
+//! Canonical texts: tokens are written side by side, and a blank parts two words.
 
-ghost use Rattle.std.specs.Prelude.{◌≡◌, ◌<◌, [], ◌∷◌, ◌++◌, length, IfOk, OnOk};
+ghost use Rattle.std.specs.Prelude.{◌≡◌, ◌<◌, [], ◌∷◌, ◌++◌, length, IfOk, OnOk, OnErr};
 ghost use Rattle.xc_base.specs.Canonical.{spaced, canonical};
+ghost use Rattle.xc_base.specs.Fronts.{IsFront};
 ghost use Rattle.xc_base.specs.Laws.{CanonicalIsCut, CanonicalIsSound};
 ghost use Rattle.xc_base.specs.Lines.{texts};
 ghost use Rattle.xc_base.specs.Names.{name_at};
@@ -28,11 +29,13 @@ fn is_word_at(tokens: &[Lexeme], place: usize) -> bool
     place < tokens.len() && is_word_text(text_at(tokens, place))
 }
 
-/// Appends a blank, where both the token at a place and the one behind it are words.
+/// Appends a blank, where both the token at a place and the one behind it are words. A text for which there is no memory
+/// stays as it was.
 #[tactic(auto, unfolding(crate::specs::Spacing::gap_after))]
 fn push_gap(text: &mut Bytes, tokens: &[Lexeme], place: usize) -> Result<(), Memory>
     requires { place < length tokens.now }
-    ensures { OnOk result (text.new ≡ text.old ++ gap_after (texts tokens.now) place) }
+    ensures ok { OnOk result (text.new ≡ text.old ++ gap_after (texts tokens.now) place) }
+    ensures err { OnErr result (text.new ≡ text.old) }
 {
     if is_word_at(tokens, place) && is_word_at(tokens, place + 1) {
         text.push(b' ')
@@ -41,10 +44,12 @@ fn push_gap(text: &mut Bytes, tokens: &[Lexeme], place: usize) -> Result<(), Mem
     }
 }
 
-/// Appends tokens, with a blank between two words that follow each other and no other blanks.
-#[tactic(auto, using(std::proofs::lemmas::Grind::common_steps, crate::proofs::SpacedTokens::spaced_steps))]
+/// Appends tokens, with a blank between two words that follow each other and no other blanks. For want of memory it
+/// appends a front of that.
+#[tactic(auto, using(std::proofs::lemmas::Grind::common_steps, crate::proofs::SpacedTokens::spaced_steps, crate::proofs::Fronts::token_lacks_its_blank))]
 pub fn push_tokens(text: &mut Bytes, tokens: &[Lexeme]) -> Result<(), Memory>
-    ensures { OnOk result (text.new ≡ text.old ++ spaced (texts tokens.now)) }
+    ensures ok { OnOk result (text.new ≡ text.old ++ spaced (texts tokens.now)) }
+    ensures err { OnErr result (IsFront (spaced (texts tokens.now)) text.old text.new) }
 {
     for place in 0..tokens.len() {
         text.extend(text_at(tokens, place))?;
@@ -62,10 +67,11 @@ pub fn spaced(alloc: Global, tokens: &[Lexeme]) -> Result<Bytes, Memory>
     Ok(text)
 }
 
-/// Appends a line of a canonical text: its tokens, and a line feed.
-#[tactic(auto, using(crate::proofs::SpacedTokens::line_ends))]
+/// Appends a line of a canonical text: its tokens, and a line feed. For want of memory it appends a front of that.
+#[tactic(auto, using(crate::proofs::SpacedTokens::line_ends, crate::proofs::Fronts::line_stops, crate::proofs::Fronts::line_lacks_its_end))]
 pub fn push_line(text: &mut Bytes, tokens: &[Lexeme]) -> Result<(), Memory>
-    ensures { OnOk result (text.new ≡ text.old ++ canonical (texts tokens.now ∷ [])) }
+    ensures ok { OnOk result (text.new ≡ text.old ++ canonical (texts tokens.now ∷ [])) }
+    ensures err { OnErr result (IsFront (canonical (texts tokens.now ∷ [])) text.old text.new) }
 {
     push_tokens(text, tokens)?;
     text.push(b'\n')

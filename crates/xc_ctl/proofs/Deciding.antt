@@ -3,8 +3,7 @@ use Rattle.std.proofs.Common.{◌≡◌, ℕ, Bool, true, false, cond, List, len
 use Rattle.xc_base.specs.Deciding.{Decides, excess_fault, statement_fault, unless, judged, line_of, on_ok}
 use Rattle.xc_base.specs.Formats.{Row, Excess}
 use Rattle.xc_base.specs.declared.fault.FileFault.{FileFault}
-use Rattle.xc_base.specs.declared.fault.FileFault.TheVariants.{NotYet}
-use Rattle.xc_ctl.specs.Written.{Written, has_fixpoint}
+use Rattle.xc_ctl.specs.Written.{Written}
 use Rattle.xc_ctl.specs.Reading.{formula_in}
 use Rattle.xc_ctl.specs.Trees.{Signature, Tree, resolved}
 use Rattle.xc_ctl.specs.FormulaFiles.{tree_excess, table_in, formula_format}
@@ -37,12 +36,7 @@ module _ (n : Signature) (before : List Written) (number : ℕ) where
   by_formula None = refl
   by_formula (Some f) = by_tree f (resolved n f) refl
 
-  -- by whether a word of a form that is not read yet stands there
-  by_words : (b : Bool) (o : Option Written) → cond b (Err (NotYet number)) (formula_table n (length before) number o) ≡ on_ok (cond b (Err (NotYet number)) (judged (formula_format n) before number o)) (table_ok n)
-  by_words true o = refl
-  by_words false o = by_formula o
-
 -- the table of a row is that of its formula
 pub row_is : (n : Signature) (before : List Written) (row : Row) → row_table n (length before) row ≡ on_ok (line_of (formula_format n) decide before row) (table_ok n)
 unfolding row_table line_of
-row_is n before row = by_words n before row.number (has_fixpoint row.tokens) (formula_in row.tokens)
+row_is n before row = by_formula n before row.number (formula_in row.tokens)

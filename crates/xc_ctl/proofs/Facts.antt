@@ -8,7 +8,7 @@ use Rattle.xc_base.specs.declared.fault.Part.TheVariants as parts
 use Rattle.xc_base.specs.declared.fault.Counted.TheVariants as counted
 use Rattle.xc_base.specs.Operators.{chained, chain as chain_on, chain_up_to}
 use Rattle.xc_ctl.specs.Written as written
-use Rattle.xc_ctl.specs.Written.{Written, is_prop_name, IsFormula, has_fixpoint, has_fixpoint_from}
+use Rattle.xc_ctl.specs.Written.{Written, is_prop_name, IsFormula}
 use Rattle.xc_ctl.specs.Written.IsSpelled.{truth, factor, summand, conclusion, all_next}
 use Rattle.xc_ctl.specs.FormulaReading as reading
 use Rattle.xc_ctl.specs.FormulaReading.{names, one_name, atom, implications, implications_up_to, basic, nested, sum, implication}
@@ -62,11 +62,6 @@ no_formulas = (refl, refl, refl, refl, refl)
 -- `AX true`, by the grammar itself
 pub spelled : IsFormula (codes "AX" ∷ codes "true" ∷ []) (written.AllNext written.True)
 spelled = conclusion 512 _ _ (summand 512 _ _ (factor 512 _ _ (all_next 511 _ _ (truth 511))))
-
--- a form that is not read yet is one outside braces
-pub fixpoints : (has_fixpoint (codes "EF" ∷ p ∷ []) ≡ true) × (has_fixpoint (codes "{" ∷ codes "EF" ∷ codes "}" ∷ []) ≡ false) × (has_fixpoint (codes "{" ∷ T ∷ codes "}" ∷ codes "&" ∷ codes "E" ∷ []) ≡ true) × (has_fixpoint (codes "EX" ∷ p ∷ []) ≡ false)
-unfolding has_fixpoint
-fixpoints = (refl, refl, refl, refl)
 
 -- what stands for abbreviations: `AX p` is `!EX!p`, and `p -> p` is `!p | p`
 pub written_out : (resolved pair (written.AllNext (written.Name p)) ≡ Some (Not (Ex (Not (Atom 0))))) × (resolved pair (written.Implies (written.Name p) written.False) ≡ Some (Or (Not (Atom 0)) (Const 0)))

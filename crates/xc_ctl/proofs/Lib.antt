@@ -2,7 +2,6 @@ pub mod Deciding
 pub mod Denoting
 pub mod ElementCodes
 pub mod Facts
-pub mod Fixpoints
 pub mod FormulaReading
 pub mod Implications
 pub mod NameReading

@@ -4,8 +4,8 @@ use Rattle.std.specs.Prelude.{◌≡◌, ℕ, cond, List, [], drop, map, Option,
 use Rattle.xc_base.specs.Deciding.{excess_fault, unless, statements_of}
 use Rattle.xc_base.specs.Formats.{Row}
 use Rattle.xc_base.specs.declared.fault.FileFault.{FileFault}
-use Rattle.xc_base.specs.declared.fault.FileFault.TheVariants.{NotYet, NoStatement, Unknown}
-use Rattle.xc_ctl.specs.Written.{Written, has_fixpoint}
+use Rattle.xc_base.specs.declared.fault.FileFault.TheVariants.{NoStatement, Unknown}
+use Rattle.xc_ctl.specs.Written.{Written}
 use Rattle.xc_ctl.specs.Reading.{formula_in}
 use Rattle.xc_ctl.specs.Trees.{Signature, Tree, resolved}
 use Rattle.xc_ctl.specs.Tables.{nodes_of}
@@ -33,7 +33,7 @@ formula_table n before number (Some f) = known_table n before number (resolved n
 
 -- the table of the formula on a row after so many others, or the row's fault
 unfoldable pub row_table : Signature → ℕ → Row → Result (List Kind) FileFault
-row_table n before row = cond (has_fixpoint row.tokens) (Err (NotYet row.number)) (formula_table n before row.number (formula_in row.tokens))
+row_table n before row = formula_table n before row.number (formula_in row.tokens)
 
 -- the tables of formulas of the code
 abbrev pub tables_in : List Formula → List (List Kind)

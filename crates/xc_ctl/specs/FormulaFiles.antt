@@ -7,7 +7,7 @@ use Rattle.xc_base.specs.declared.fault.Part.TheVariants as parts
 use Rattle.xc_base.specs.declared.fault.Counted.TheVariants as counted
 use Rattle.xc_base.specs.declared.fault.Stop.{Stop}
 use Rattle.xc_base.specs.declared.fault.Stop.TheVariants.{File, Memory}
-use Rattle.xc_ctl.specs.Written.{Written, IsFormula, has_fixpoint}
+use Rattle.xc_ctl.specs.Written.{Written, IsFormula}
 use Rattle.xc_ctl.specs.Trees.{Signature, Tree, resolved}
 use Rattle.xc_ctl.specs.Texts.{text_of}
 use Rattle.xc_ctl.specs.Tables.{size_of, nodes_of}
@@ -46,7 +46,6 @@ tables_of n formulas = map (λ f. table_in (resolved n f)) formulas
 abbrev pub formula_format : Signature → Format Written (List (List Kind))
 formula_format n =
     record {
-      unready = has_fixpoint;
       Due = λ before tokens f. IsFormula tokens f;
       repeated = λ before f. false;
       unknown = λ before f. is_none (resolved n f);

@@ -66,15 +66,3 @@ depth_limit = 512
 -- the tokens are that formula
 abbrev pub IsFormula : List (List ℕ) → Written → Type 0
 IsFormula tokens f = IsSpelled Implication depth_limit tokens f
-
--- whether what follows a token stands outside braces, by what the token does to what stood before it
-abbrev pub stays_outside : Bool → List ℕ → Bool
-stays_outside outside token = if bytes_eq token (codes "{") then false else if bytes_eq token (codes "}") then true else outside
-
-abbrev pub has_fixpoint_from : Bool → List (List ℕ) → Bool
-has_fixpoint_from outside [] = false
-has_fixpoint_from outside (token ∷ more) = (outside && is_among fixpoint_words token) || has_fixpoint_from (stays_outside outside token) more
-
--- whether a word of a form that is not read yet stands outside braces: the last brace before it, if any, is `}`
-unfoldable pub has_fixpoint : List (List ℕ) → Bool
-has_fixpoint tokens = has_fixpoint_from true tokens

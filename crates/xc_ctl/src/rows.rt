@@ -5,7 +5,6 @@ ghost use Rattle.std.specs.List.{list_all};
 ghost use Rattle.xc_theory.specs.Codes.{total};
 ghost use Rattle.xc_base.specs.Deciding.{Gives};
 ghost use Rattle.xc_base.specs.Lines.{texts, rows_in, row_at};
-ghost use Rattle.xc_ctl.specs.Written.{has_fixpoint, has_fixpoint_from, stays_outside};
 ghost use Rattle.xc_ctl.specs.Trees.{sizes_of};
 ghost use Rattle.xc_ctl.specs.Tables.{size_of, is_table};
 ghost use Rattle.xc_ctl.specs.FormulaFiles.{IsStop};
@@ -21,7 +20,6 @@ use crate::printer::text_of;
 use crate::resolver::resolve;
 use crate::tree::Tree;
 use crate::vocabulary::Vocabulary;
-use crate::words::is_fixpoint_word;
 use std::alloc::Global;
 use xc_base::{Counted, FileFault, Lexeme, Lines, List, Stop};
 
@@ -31,34 +29,6 @@ const NODE_LIMIT: usize = 256;
 const TEXT_LIMIT: usize = 4000;
 
 const FORMULA_LIMIT: usize = 64;
-
-/// Whether what follows a token stands outside of braces.
-fn stays_outside(outside: bool, token: &[u8]) -> bool
-    ensures { result ≡ stays_outside outside token.now }
-{
-    if token == b"{".as_slice() {
-        false
-    } else if token == b"}".as_slice() {
-        true
-    } else {
-        outside
-    }
-}
-
-/// Whether a word of a form that is not read yet stands outside of braces.
-#[tactic(auto, using(std::proofs::lemmas::Grind::common_steps, crate::proofs::Fixpoints::fixpoint_steps))]
-fn has_fixpoint(tokens: &[Lexeme]) -> bool
-    ensures { result ≡ has_fixpoint (texts tokens.now) }
-{
-    let mut outside = true;
-    for token in tokens {
-        if outside && is_fixpoint_word(token.text) {
-            return true;
-        }
-        outside = stays_outside(outside, token.text);
-    }
-    false
-}
 
 /// The table of a formula that is written out, after so many others.
 #[tactic(auto, using(std::proofs::lemmas::Grind::common_steps, crate::proofs::TreeTables::tree_is_table))]
@@ -109,9 +79,6 @@ fn row_table(
     ensures table { IfOk result (λ nodes. is_table nodes ≡ true) }
     ensures few { IfOk result (λ nodes. before < 64) }
 {
-    if has_fixpoint(tokens) {
-        return Err(Stop::File(FileFault::NotYet { line }));
-    }
     let Some(phrase) = parse_formula(alloc, tokens)? else {
         return Err(Stop::File(FileFault::NoStatement { line }));
     };

@@ -79,7 +79,6 @@ fn counted(alloc: Global, formulas: &Formulas) -> Result<String, AllocError> {
 
 fn fault_told(alloc: Global, fault: &FileFault) -> Result<String, AllocError> {
     match fault {
-        FileFault::NotYet { line } => format!(in alloc; "NotYet {line}"),
         FileFault::NoStatement { line } => format!(in alloc; "NoStatement {line}"),
         FileFault::Repeated { line } => format!(in alloc; "Repeated {line}"),
         FileFault::Unknown { line } => format!(in alloc; "Unknown {line}"),
@@ -165,12 +164,11 @@ fn files_have_their_first_fault(rt: HostRuntime) -> Result<(), Fail> {
         ("{M,T}", "Unknown 1"),
         ("{T,M,T}", "Unknown 1"),
         ("p\np & s\n", "Unknown 2"),
-        // a form that is not read yet: its words, but not in braces, and before every other fault of the line
-        ("EF p", "NotYet 1"),
-        ("A[p U q]", "NotYet 1"),
-        ("p\nE ) (", "NotYet 2"),
-        ("s & AG s", "NotYet 1"),
-        ("{T,M} & EG", "NotYet 1"),
+        ("EF p", "NoStatement 1"),
+        ("A[p U q]", "NoStatement 1"),
+        ("p\nE ) (", "NoStatement 2"),
+        ("s & AG s", "NoStatement 1"),
+        ("{T,M} & EG", "NoStatement 1"),
         ("{EF,T}", "Unknown 1"),
         ("{ EF p", "NoStatement 1"),
         ("p &\nEF p", "NoStatement 1"),

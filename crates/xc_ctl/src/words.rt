@@ -7,7 +7,7 @@ ghost use Rattle.xc_ctl.specs.Written.{fixpoint_words, reserved_words, is_prop_n
 use xc_base::is_name_text;
 
 /// Whether the text is a word of a form that is not read yet.
-pub(crate) fn is_fixpoint_word(text: &[u8]) -> bool
+fn is_fixpoint_word(text: &[u8]) -> bool
     ensures { result ≡ is_among fixpoint_words text.now }
 {
     text == b"EF".as_slice()

@@ -39,7 +39,6 @@ fact_faultless name names mid (Lattice other) named h = absurd h
 fact_faultless name names mid (Elements others) named h = absurd h
 fact_faultless name names mid (Below a b) named h =
     record {
-      ready = refl;
       due = record { spelled = refl; named = and_from _ _ (among_named names a named h.0) (among_named names b named h.1); placed = refl };
       first = refl;
       known = neither_unknown (is_among names a) (is_among names b) h.0 h.1;
@@ -47,7 +46,6 @@ fact_faultless name names mid (Below a b) named h =
     }
 fact_faultless name names mid (Not a b) named h =
     record {
-      ready = refl;
       due = record { spelled = refl; named = and_from _ _ (among_named names a named h.0) (among_named names b named h.1); placed = refl };
       first = h.2;
       known = neither_unknown (is_among names a) (is_among names b) h.0 h.1;
@@ -266,7 +264,7 @@ module _ (v : LatticeValue) (r : IsReady v) where
       (nots_after (Lattice v.name ∷ Elements v.names ∷ below) (λ a low within. pairs_negate v.names (name_at v.names a) below pairs))
 
   name_line : IsFaultless lattice_format [] (spelling (Lattice v.name)) (Lattice v.name)
-  name_line = record { ready = refl; due = record { spelled = refl; named = r.titled; placed = refl }; first = refl; known = refl; few = refl }
+  name_line = record { due = record { spelled = refl; named = r.titled; placed = refl }; first = refl; known = refl; few = refl }
 
   no_excess : (x : Excess) → (if nat_le 2 (length v.names) && nat_le (length v.names) 64 then None else Some x) ≡ None
   no_excess x = let few : (nat_le 2 (length v.names) && nat_le (length v.names) 64) ≡ true = and_from _ _ (le-leb 2 (length v.names) (omega (arith, r.some, r.named))) (le-leb (length v.names) 64 (omega (arith, r.few, r.named))) in rw few refl
@@ -274,7 +272,6 @@ module _ (v : LatticeValue) (r : IsReady v) where
   elements_line : IsFaultless lattice_format (Lattice v.name ∷ []) (spelling (Elements v.names)) (Elements v.names)
   elements_line =
       record {
-        ready = refl;
         due = record { spelled = refl; named = and_from _ _ (lt-ltb 0 (length v.names) (omega (arith, r.some, r.named))) r.names_are; placed = refl };
         first = r.different;
         known = refl;

@@ -112,7 +112,7 @@ pub record Says (statements : List Statement) (v : LatticeValue) : Type 0 where
   pub negated : (a : ℕ) → a < length v.names → (negation v.algebra a < length v.names) × SaysNegation statements v.names a (negation v.algebra a)
 
 abbrev pub lattice_format : Format Statement LatticeValue
-lattice_format = record { unready = λ tokens. false; Due = IsDue; repeated = is_repeated; unknown = is_unknown; count = element_excess; missing = missing_part; Says = Says }
+lattice_format = record { Due = IsDue; repeated = is_repeated; unknown = is_unknown; count = element_excess; missing = missing_part; Says = Says }
 
 -- What comes of a lattice file: its first fault, or the first law that it breaks with the names of the elements that
 -- break it, or its lattice.

@@ -19,8 +19,8 @@ pub(crate) fn copy_names(alloc: Global, names: &[Word]) -> Result<List<Word>, Me
 }
 
 impl Lattice {
-    ghost use Rattle.xc_alg.specs.AnyTables.{lattice_in_any};
-    ghost use Rattle.xc_lattice.specs.Rooms.{room_of, least_room};
+    ghost use Rattle.xc_alg.specs.AnyTables.{lattice_in_any, room_of};
+    ghost use Rattle.xc_lattice.specs.Rooms.{least_room};
     ghost use Rattle.xc_lattice.specs.Values.{value_of};
     ghost use Rattle.xc_theory.specs.Lattices.{size};
 

@@ -96,7 +96,7 @@ impl Lattice {
         self.order.size()
     }
 
-    /// The greatest number of elements in a chain, less one.
+    /// How many steps upward can follow one another at most, each to a greater element.
     pub fn height(&self) -> u32
         ensures { IsHeight (value_of self.now).algebra.order result }
     {

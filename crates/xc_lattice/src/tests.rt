@@ -33,7 +33,6 @@ fn told(alloc: Global, lattice: &Lattice) -> Result<String, AllocError> {
 
 fn fault_told(alloc: Global, fault: &FileFault) -> Result<String, AllocError> {
     match fault {
-        FileFault::NotYet { line } => format!(in alloc; "NotYet {line}"),
         FileFault::NoStatement { line } => format!(in alloc; "NoStatement {line}"),
         FileFault::Repeated { line } => format!(in alloc; "Repeated {line}"),
         FileFault::Unknown { line } => format!(in alloc; "Unknown {line}"),

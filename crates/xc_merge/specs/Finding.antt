@@ -16,7 +16,7 @@ use Rattle.xc_sigmap.specs.declared.parts.Tell.{Tell}
 use Rattle.xc_merge.specs.Merges.{Merge, Viewpoint, viewpoint_at, name_of}
 use Rattle.xc_merge.specs.Projections.{carried_word}
 use Rattle.xc_merge.specs.MergedFrames.{line_of}
-use Rattle.xc_merge.specs.Faults.{IsFirstOf, unknown_in_line, told_faults, is_fed, viewpoint_faults}
+use Rattle.xc_merge.specs.Faults.{IsFirstOf, unknown_in_line, told_faults, is_fed, value_faults, send_faults, tell_faults, stutter_faults, variable_faults, prop_faults, viewpoint_faults}
 use Rattle.xc_merge.specs.declared.fault.MergeFault.{MergeFault}
 use Rattle.xc_merge.specs.declared.fault.MergeFault.TheVariants.{UnknownValue, UnknownName, NotTotal}
 
@@ -81,3 +81,13 @@ faults_from m v count = flat_map (λ v. viewpoint_faults m.plan v (viewpoint_at 
 -- whether a line carries each value from one on to a value of the viewpoint's variable
 unfoldable pub carries_from : MapValue → Domain → SendLine → ℕ → Bool
 carries_from plan d line value = list_all (λ k. is_among d.values (carried_word plan line k)) (range_with_len value (length (values_at plan.vars line.from) - value))
+
+-- the faults of a viewpoint in three parts
+abbrev pub named_faults : MapValue → ℕ → Viewpoint → List MergeFault
+named_faults plan v p = value_faults plan v p ++ send_faults plan v p
+
+abbrev pub told_or_stuttered_faults : MapValue → ℕ → Viewpoint → List MergeFault
+told_or_stuttered_faults plan v p = tell_faults plan v p ++ stutter_faults plan v p
+
+abbrev pub total_faults : MapValue → ℕ → Viewpoint → List MergeFault
+total_faults plan v p = variable_faults plan v p ++ prop_faults plan v

@@ -55,7 +55,7 @@ pub fn carried_word<'a>(sigmap: &'a SigMap, line: &'a SendLine, value: usize) ->
 }
 
 /// Whether a line carries each value of the map's variable to a value of the viewpoint's.
-#[tactic(auto, using(std::proofs::lemmas::Grind::common_steps, crate::proofs::Feeding::carries_steps))]
+#[tactic(auto, using(std::proofs::lemmas::Grind::common_steps, crate::proofs::Carrying::carries_steps))]
 fn carries_all(sigmap: &SigMap, domain: &Domain, line: &SendLine) -> bool
     requires { line.now.from < length (map_of sigmap.now).vars }
     ensures { result ≡ carries_all (map_of sigmap.now) domain.now line.now }
@@ -71,7 +71,7 @@ fn carries_all(sigmap: &SigMap, domain: &Domain, line: &SendLine) -> bool
 }
 
 /// Whether a viewpoint's variable is fed with each value.
-#[tactic(auto, using(std::proofs::lemmas::Grind::common_steps, crate::proofs::Feeding::line_in_range))]
+#[tactic(auto, using(std::proofs::lemmas::Grind::common_steps, crate::proofs::Carrying::line_in_range))]
 fn is_fed(sigmap: &SigMap, number: usize, domain: &Domain) -> bool
     ensures { result ≡ is_fed (map_of sigmap.now) number domain.now }
 {
@@ -154,7 +154,7 @@ fn look_for_telling(
 }
 
 /// Asks whether a viewpoint tells all propositions of the map.
-#[tactic(auto, using(std::proofs::lemmas::Grind::common_steps, crate::proofs::Feeding::untold_steps))]
+#[tactic(auto, using(std::proofs::lemmas::Grind::common_steps, crate::proofs::Carrying::untold_steps))]
 pub(crate) fn look_for_tellings(
     alloc: Global,
     viewpoint: &Word,

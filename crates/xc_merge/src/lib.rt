@@ -3,8 +3,13 @@
 
 mod fault;
 mod feeding;
+mod find;
 mod lines;
 mod words;
 
 pub use fault::MergeFault;
 pub use feeding::{carried_word, line_for, line_of};
+pub use find::find_fault;
+
+#[cfg(test)]
+mod tests;

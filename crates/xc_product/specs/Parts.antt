@@ -2,12 +2,16 @@
 use Rattle.std.specs.Prelude.{◌≡◌, ◌+◌, ◌<◌, ◌≤◌, ℕ, List, length, map, drop, slice_index}
 use Rattle.xc_theory.specs.Lattices.{LatticeData}
 use Rattle.xc_alg.specs.Products.{product}
-use Rattle.xc_alg.specs.AnyTables.{lattice_in_any}
+use Rattle.xc_alg.specs.AnyTables.{lattice_in_any, room_of}
 use Rattle.xc_alg.specs.declared.any_table.AnyTable.{AnyTable}
 
 -- the lattices of some tables, in order
 abbrev pub lattices : List AnyTable → List LatticeData
 lattices tables = map lattice_in_any tables
+
+-- for how many elements each table has room
+abbrev pub rooms : List AnyTable → List ℕ
+rooms tables = map room_of tables
 
 -- What a product keeps: public clauses do not rest on these words.
 -- how many codes the parts after a part have

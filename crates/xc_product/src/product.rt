@@ -2,7 +2,7 @@ ghost use Rattle.std.specs.Prelude.{◌≡◌, ◌<◌, ◌≤◌, ◌/◌, ◌%
 ghost use Rattle.xc_theory.specs.Lattices.{bottom};
 ghost use Rattle.xc_theory.specs.Codes.{total, digits, code_of, AreDigits};
 ghost use Rattle.xc_alg.specs.Products.{product, sizes};
-ghost use Rattle.xc_product.specs.Parts.{lattices, weight, HoldsProduct};
+ghost use Rattle.xc_product.specs.Parts.{lattices, rooms, weight, HoldsProduct};
 ghost use Rattle.xc_product.specs.Heights.{AreHeights, HaveHeights, IsSumOfHeights};
 
 use crate::bounds::{bottom_code, top_code};
@@ -37,7 +37,7 @@ pub(crate) struct Split {
 }
 
 impl Product {
-    ghost use Rattle.xc_product.specs.Products.{parts_of};
+    ghost use Rattle.xc_product.specs.Products.{parts_of, rooms_of};
     ghost use Rattle.xc_product.specs.Faults.{IsFaultOf};
 
     /// The product of some parts, in order. Where their sizes multiply to more than 4,096 it fails with that number, and
@@ -46,6 +46,7 @@ impl Product {
         requires several { 1 ≤ length parts }
         requires few { length parts ≤ 8 }
         ensures ok { IfOk result (λ p. (parts_of p ≡ lattices parts) × (total (sizes (lattices parts)) ≤ 4096)) }
+        ensures rooms { IfOk result (λ p. rooms_of p ≡ rooms parts) }
         ensures err { IfErr result (IsFaultOf (lattices parts)) }
     {
         let tables = parts.as_slice();
@@ -68,9 +69,10 @@ impl Product {
         })
     }
 
-    /// A product of the same parts with memory of its own.
+    /// A product of the same parts, in tables of the same room, with memory of its own.
     pub fn copy(&self, alloc: Global) -> Result<Product, Memory>
-        ensures { IfOk result (λ p. parts_of p ≡ parts_of self.now) }
+        ensures parts { IfOk result (λ p. parts_of p ≡ parts_of self.now) }
+        ensures rooms { IfOk result (λ p. rooms_of p ≡ rooms_of self.now) }
     {
         let tables = copy_tables(alloc, self.tables.as_slice())?;
         Ok(Product {
@@ -156,7 +158,8 @@ impl Product {
 }
 
 fn copy_tables(alloc: Global, tables: &[AnyTable]) -> Result<List<AnyTable>, Memory>
-    ensures { IfOk result (λ copies. lattices copies ≡ lattices tables.now) }
+    ensures same { IfOk result (λ copies. lattices copies ≡ lattices tables.now) }
+    ensures rooms { IfOk result (λ copies. rooms copies ≡ rooms tables.now) }
 {
     let mut copies = List::new(alloc);
     for table in tables {

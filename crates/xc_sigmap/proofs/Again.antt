@@ -171,7 +171,7 @@ module _ (v : MapValue) (sound : is_sound v ≡ true) where
 
   -- each kind is faultless after those before it
   head_fine : IsFaultless map_format [] (spelling (Map v.name)) (Map v.name)
-  head_fine = record { ready = refl; due = record { spelled = refl; named = are_sound.name; placed = refl }; first = refl; known = refl; few = refl }
+  head_fine = record { due = record { spelled = refl; named = are_sound.name; placed = refl }; first = refl; known = refl; few = refl }
 
   k1 : AreFaultless b1 (map Use v.uses)
   k1 = uses_fine b1 v.uses (λ u. refl) are_sound.named_uses are_sound.used are_sound.few_uses

@@ -43,7 +43,7 @@ uses_fine before (u ∷ us) d n t f =
     not_before (use_names (uses_of before)) u.name (use_names us) (sym (ap has_twice (map-append (λ (w : viewpoints.Use). w.name) (uses_of before) (u ∷ us))) ∙ t) in
     let few : length (uses_of before) < use_limit = omega (arith, length-append (uses_of before) (u ∷ us)) in
     let same : uses_of (before ++ Use u ∷ []) ++ us ≡ uses_of before ++ u ∷ us = ap (λ (ws : List viewpoints.Use). ws ++ us) (uses_append before (Use u ∷ [])) ∙ append_assoc (uses_of before) (u ∷ []) us in (
-      record { ready = refl; due = record { spelled = refl; named = parts.0; placed = d u }; first = new; known = refl; few = no_excess use_limit (length (uses_of before)) _ few },
+      record { due = record { spelled = refl; named = parts.0; placed = d u }; first = new; known = refl; few = no_excess use_limit (length (uses_of before)) _ few },
       uses_fine (before ++ Use u ∷ []) us (λ w. due_after before (Use u) (Use w)) parts.1
           (ap (λ (ws : List viewpoints.Use). has_twice (use_names ws)) same ∙ t)
           (subst (λ (ws : List viewpoints.Use). length ws ≤ use_limit) (sym same) f),
@@ -58,7 +58,7 @@ props_fine before (p ∷ ps) d n t f =
     let new : is_among (props_of before) p ≡ false = not_before (props_of before) p ps t in
     let few : length (props_of before) < prop_limit = omega (arith, length-append (props_of before) (p ∷ ps)) in
     let same : props_of (before ++ Prop p ∷ []) ++ ps ≡ props_of before ++ p ∷ ps = ap (λ (ws : List (List ℕ)). ws ++ ps) (props_append before (Prop p ∷ [])) ∙ append_assoc (props_of before) (p ∷ []) ps in (
-      record { ready = refl; due = record { spelled = refl; named = parts.0; placed = d p }; first = new; known = refl; few = no_excess prop_limit (length (props_of before)) _ few },
+      record { due = record { spelled = refl; named = parts.0; placed = d p }; first = new; known = refl; few = no_excess prop_limit (length (props_of before)) _ few },
       props_fine (before ++ Prop p ∷ []) ps (λ w. due_after before (Prop p) (Prop w)) parts.1
           (ap has_twice same ∙ t)
           (subst (λ (ws : List (List ℕ)). length ws ≤ prop_limit) (sym same) f),
@@ -94,7 +94,6 @@ vars_fine before (v ∷ vs) d n t k f =
     not_before (names_of (vars_of before)) v.name (names_of vs) (sym (ap has_twice (map-append (λ (w : Domain). w.name) (vars_of before) (v ∷ vs))) ∙ t) in
     let same : vars_of (before ++ Var v ∷ []) ++ vs ≡ vars_of before ++ v ∷ vs = ap (λ (ws : List Domain). ws ++ vs) (vars_append before (Var v ∷ [])) ∙ append_assoc (vars_of before) (v ∷ []) vs in (
       record {
-        ready = refl;
         due = record { spelled = refl; named = and_from _ _ named.0 (and_from _ _ some named.1); placed = d v };
         first = or_from _ _ new (not-true (has_twice v.values) size.1);
         known = refl;

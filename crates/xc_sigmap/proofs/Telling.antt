@@ -195,7 +195,6 @@ module _ (v : MapValue) (h : IsDeclared v) where
         let carried = pairs_named (values_at v.vars l.from) l.pairs (values_are_names v.vars l.from h.named_vars below) send_carried in
         let once = pairs_once (values_at v.vars l.from) l.pairs (values_differ v.vars l.from h.domains below) send_carried send_once in
         record {
-          ready = refl;
           due = record { spelled = refl; named = and_from _ _ (and_from _ _ (and_from _ _ (use_named l.viewpoint send_use) send_variable) source_named) carried; placed = b.due (sending v l) refl };
           first = or_from _ _ new once;
           known = ap not (and_from _ _ (use_known before l.viewpoint b send_use) (source_there before b));
@@ -231,7 +230,6 @@ module _ (v : MapValue) (h : IsDeclared v) where
         let within : l.prop < length v.props = ltb-true l.prop (length v.props) tell_prop in
         let there : is_among (props_of before) (name_at v.props l.prop) ≡ true = ap (λ (ps : List (List ℕ)). is_among ps (name_at v.props l.prop)) b.declared ∙ among_at v.props l.prop within in
         record {
-          ready = refl;
           due = record { spelled = refl; named = and_from _ _ (and_from _ _ (use_named l.viewpoint tell_use) (name_passes is_name v.props l.prop h.named_props within)) (and_parts _ _ fit).1; placed = b.due (telling v l) refl };
           first = new;
           known = ap not (and_from _ _ (use_known before l.viewpoint b tell_use) there);
@@ -259,7 +257,6 @@ module _ (v : MapValue) (h : IsDeclared v) where
   pub stutter_fine : (before : List Statement) (l : gaps.Stutter) → IsBehind v.uses v.vars v.props before → is_stutter_in v l ≡ true → list_any (says_again (stuttering v l)) before ≡ false → IsFaultless map_format before (spelling (stuttering v l)) (stuttering v l)
   stutter_fine before l b fit new =
       record {
-        ready = refl;
         due = record { spelled = refl; named = and_from _ _ (use_named l.viewpoint (stutter_use l fit)) (and_parts _ _ fit).1; placed = b.due (stuttering v l) refl };
         first = new;
         known = ap not (use_known before l.viewpoint b (stutter_use l fit));

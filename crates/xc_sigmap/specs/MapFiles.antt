@@ -287,4 +287,4 @@ map_of statements =
     }
 
 abbrev pub map_format : Format Statement MapValue
-map_format = record { unready = λ tokens. false; Due = IsDue; repeated = is_repeated; unknown = is_unknown; count = excess_of; missing = missing_part; Says = λ statements v. v ≡ map_of statements }
+map_format = record { Due = IsDue; repeated = is_repeated; unknown = is_unknown; count = excess_of; missing = missing_part; Says = λ statements v. v ≡ map_of statements }

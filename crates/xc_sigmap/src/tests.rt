@@ -82,7 +82,6 @@ fn fault_told(alloc: Global, fault: &FileFault) -> Result<String, AllocError> {
         FileFault::Count { line, what, found } => {
             format!(in alloc; "Count {line} {what:?} {found}")
         }
-        FileFault::NotYet { line } => format!(in alloc; "NotYet {line}"),
         FileFault::Missing { part: Part::Head } => format!(in alloc; "Missing head"),
         FileFault::Missing { part: Part::Uses } => format!(in alloc; "Missing uses"),
         FileFault::Missing { part: Part::Var } => format!(in alloc; "Missing var"),

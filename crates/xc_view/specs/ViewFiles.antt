@@ -219,4 +219,4 @@ view_of statements =
     }
 
 abbrev pub view_format : Format Statement ViewValue
-view_format = record { unready = λ tokens. false; Due = IsDue; repeated = is_repeated; unknown = is_unknown; count = excess_of; missing = missing_part; Says = λ statements v. v ≡ view_of statements }
+view_format = record { Due = IsDue; repeated = is_repeated; unknown = is_unknown; count = excess_of; missing = missing_part; Says = λ statements v. v ≡ view_of statements }

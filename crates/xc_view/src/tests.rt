@@ -119,7 +119,6 @@ fn fault_told(alloc: Global, fault: &FileFault) -> Result<String, AllocError> {
         FileFault::Count { line, what, found } => {
             format!(in alloc; "Count {line} {what:?} {found}")
         }
-        FileFault::NotYet { line } => format!(in alloc; "NotYet {line}"),
         FileFault::Missing { part: Part::Head } => format!(in alloc; "Missing head"),
         FileFault::Missing {
             part: Part::Lattice,

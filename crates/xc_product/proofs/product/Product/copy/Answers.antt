@@ -9,6 +9,6 @@ use Rattle.xc_product.proofs.product.Product.copy.Goals as goal
 pub invariant_of-result : goal.invariant_of-result
 invariant_of-result c =
     record {
-      holds = holds_of_copy c.in_ok-tables.tables c.args.self.now.tables c.args.self.now.weights c.args.self.now.size c.args.self.now.bottom c.args.self.now.top (c.in_ok-tables.ensures ∙ ap (λ (tables : List AnyTable). lattices tables) c.as_slice.ensures) c.args.self.now.holds;
-      summed = subst (λ (parts : List LatticeData). ∥ IsSumOfHeights parts c.args.self.now.height ∥₁) (sym (c.in_ok-tables.ensures ∙ ap (λ (tables : List AnyTable). lattices tables) c.as_slice.ensures)) c.args.self.now.summed;
+      holds = holds_of_copy c.in_ok-tables.tables c.args.self.now.tables c.args.self.now.weights c.args.self.now.size c.args.self.now.bottom c.args.self.now.top (c.in_ok-tables.ensures.same ∙ ap (λ (tables : List AnyTable). lattices tables) c.as_slice.ensures) c.args.self.now.holds;
+      summed = subst (λ (parts : List LatticeData). ∥ IsSumOfHeights parts c.args.self.now.height ∥₁) (sym (c.in_ok-tables.ensures.same ∙ ap (λ (tables : List AnyTable). lattices tables) c.as_slice.ensures)) c.args.self.now.summed;
     }
