@@ -20,3 +20,6 @@ mod tabulate;
 mod tellings;
 
 pub use machine::Machine;
+
+#[cfg(test)]
+mod tests;
