@@ -33,3 +33,5 @@ pub use verdict::files_have_one_reading;
 
 #[cfg(test)]
 mod tests;
+#[cfg(test)]
+mod machine_tests;
