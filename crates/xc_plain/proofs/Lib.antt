@@ -1,0 +1,5 @@
+pub mod Joining
+pub mod Keeping
+pub mod Rising
+pub mod Settling
+pub mod Stepping
