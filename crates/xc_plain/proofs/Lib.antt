@@ -3,3 +3,5 @@ pub mod Keeping
 pub mod Rising
 pub mod Settling
 pub mod Stepping
+pub mod Tabling
+pub mod Telling

@@ -2,3 +2,6 @@ pub mod Successors
 pub mod Steps
 pub mod Told
 pub mod Settled
+pub mod Nodes
+pub mod Tables
+pub mod Machines
