@@ -6,6 +6,7 @@ mod digits;
 mod elements;
 mod encoder;
 mod feeds;
+mod framed;
 mod gathering;
 mod initials;
 mod joins;
