@@ -1,5 +1,5 @@
 -- The reader of formulas gives the formula that is due, and what comes of it.
-use Rattle.std.proofs.Common.{◌≡◌, ℕ, Bool, true, false, cond, List, length, Option, Some, None, Result, Ok, Err, refl, sym, ◌∙◌, ap}
+use Rattle.std.proofs.Common.{◌≡◌, ℕ, List, length, Option, Some, None, Result, Ok, refl, sym, ◌∙◌, ap}
 use Rattle.xc_base.specs.Deciding.{Decides, excess_fault, statement_fault, unless, judged, line_of, on_ok}
 use Rattle.xc_base.specs.Formats.{Row, Excess}
 use Rattle.xc_base.specs.declared.fault.FileFault.{FileFault}

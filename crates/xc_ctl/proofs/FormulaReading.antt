@@ -1,17 +1,22 @@
 -- What is read as a formula is spelled so, and what is spelled so is read.
 use Rattle.std.proofs.Common.{◌≡◌, ℕ, zero, suc, Bool, true, false, cond, List, [], ◌∷◌, ◌++◌, append_assoc, append-nil, codes, Option, Some, None, refl, sym, ◌∙◌, subst, ap}
 use Rattle.std.specs.List.{list_all}
-use Rattle.std.specs.Option.{option_map}
+use Rattle.std.specs.Option.{option_map, option_and_then}
 use Rattle.std.specs.Str.{bytes_eq}
 use Rattle.std.proofs.lemmas.Option.{none-some, same_Some}
 use Rattle.xc_base.specs.Operators.{Front, behind, alone, whole, chain, Shortens, Begins, IsSound}
 use Rattle.xc_base.specs.Words.{is_name}
 use Rattle.xc_base.proofs.Naming.{same_bytes}
 use Rattle.xc_base.proofs.Operators.{behind_cut, chain_ends, chain_goes, chained_begins, sound_shortens, chained_sound}
-use Rattle.xc_ctl.specs.Written.{Written, True, False, Name, Braces, Not, SomeNext, AllNext, And, Or, Level, Implication, Sum, Product, Basic, IsSpelled, listed, is_prop_name, depth_limit, IsFormula}
-use Rattle.xc_ctl.specs.Written.IsSpelled.{truth, falsity, name, braces, negated, some_next, all_next, enclosed, factor, and, summand, or, conclusion, implies}
-use Rattle.xc_ctl.specs.FormulaReading.{names, in_braces, word_formula, word_before, atom, applied, closed, or_else, products, sums, implying, implications, under, nested_by, basic, product, sum, implication}
+use Rattle.xc_ctl.specs.Written.{Written, True, False, Name, Braces, Prefixed, Until, And, Or, Level, Implication, Sum, Product, Basic, IsSpelled, listed, is_prop_name, prefix_word, path_word, depth_limit, IsFormula}
+use Rattle.xc_ctl.specs.Written.IsSpelled.{truth, falsity, name, braces, prefixed, until, enclosed, factor, and, summand, or, conclusion, implies}
+use Rattle.xc_ctl.specs.FormulaReading.{names, in_braces, word_formula, word_before, atom, prefix_in, paths_in, applied, closed, or_else, products, sums, implying, implications, until_closed, until_second, in_brackets, under, nested_by, basic, product, sum, implication}
+use Rattle.xc_ctl.specs.FormulaReading as reading
 use Rattle.xc_ctl.specs.Reading.{formula_in}
+use Rattle.xc_ctl.specs.declared.prefix.Prefix.{Prefix}
+use Rattle.xc_ctl.specs.declared.prefix.Prefix.TheVariants.{Negation, SomeNext, AllNext, SomeFinally, AllFinally, SomeGlobally, AllGlobally}
+use Rattle.xc_ctl.specs.declared.prefix.Paths.{Paths}
+use Rattle.xc_ctl.specs.declared.prefix.Paths.TheVariants.{SomePath, EveryPath}
 use Rattle.xc_ctl.specs.Laws.{FormulasAreRead, FormulasAreUnique}
 use Rattle.xc_ctl.proofs.NameReading.{AreListed, names_sound, names_read}
 use Rattle.xc_ctl.proofs.Implications.{implications_end, implications_go, implications_sound}
@@ -72,17 +77,84 @@ sums_sound d s = chained_sound (codes "|") Or (products (basic d)) (IsSpelled Pr
 wholes_sound : (d : ℕ) → IsSound (IsSpelled Basic d) (basic d) → IsSound (IsSpelled Implication d) (implications (sums (basic d)))
 wholes_sound d s = implications_sound (sums (basic d)) (IsSpelled Sum d) (IsSpelled Implication d) (conclusion d) (implies d) (sums_sound d s)
 
--- what an operator makes of a formula is spelled so
-abbrev Makes : List ℕ → (Written → Written) → Type 0
-Makes token make = (d : ℕ) (tokens : List (List ℕ)) (f : Written) → IsSpelled Basic d tokens f → IsSpelled Basic (suc d) (token ∷ tokens) (make f)
+-- a token that is a prefix, by the outcomes of its tests
+prefix_by : (token : List ℕ) (p : Prefix) (not ex ax ef af eg ag : Bool) → bytes_eq token (codes "!") ≡ not → bytes_eq token (codes "EX") ≡ ex → bytes_eq token (codes "AX") ≡ ax
+    → bytes_eq token (codes "EF") ≡ ef → bytes_eq token (codes "AF") ≡ af → bytes_eq token (codes "EG") ≡ eg → bytes_eq token (codes "AG") ≡ ag
+    → cond not (Some Negation) (cond ex (Some SomeNext) (cond ax (Some AllNext) (cond ef (Some SomeFinally) (cond af (Some AllFinally) (cond eg (Some SomeGlobally) (cond ag (Some AllGlobally) None)))))) ≡ Some p
+    → token ≡ prefix_word p
+prefix_by token p true b c d e f g h1 h2 h3 h4 h5 h6 h7 r = same_bytes token (codes "!") h1 ∙ ap prefix_word (same_Some Negation p r)
+prefix_by token p false true c d e f g h1 h2 h3 h4 h5 h6 h7 r = same_bytes token (codes "EX") h2 ∙ ap prefix_word (same_Some SomeNext p r)
+prefix_by token p false false true d e f g h1 h2 h3 h4 h5 h6 h7 r = same_bytes token (codes "AX") h3 ∙ ap prefix_word (same_Some AllNext p r)
+prefix_by token p false false false true e f g h1 h2 h3 h4 h5 h6 h7 r = same_bytes token (codes "EF") h4 ∙ ap prefix_word (same_Some SomeFinally p r)
+prefix_by token p false false false false true f g h1 h2 h3 h4 h5 h6 h7 r = same_bytes token (codes "AF") h5 ∙ ap prefix_word (same_Some AllFinally p r)
+prefix_by token p false false false false false true g h1 h2 h3 h4 h5 h6 h7 r = same_bytes token (codes "EG") h6 ∙ ap prefix_word (same_Some SomeGlobally p r)
+prefix_by token p false false false false false false true h1 h2 h3 h4 h5 h6 h7 r = same_bytes token (codes "AG") h7 ∙ ap prefix_word (same_Some AllGlobally p r)
+prefix_by token p false false false false false false false h1 h2 h3 h4 h5 h6 h7 r = absurd (none-some p r)
 
--- an operator and a formula behind it
-applied_sound : (d : ℕ) → IsSound (IsSpelled Basic d) (basic d) → (token : List ℕ) (rest : List (List ℕ)) (make : Written → Written) (f : Front Written) → Makes token make
-    → (o : Option (Front Written)) → basic d rest ≡ o → applied make o ≡ Some f → Begins (IsSpelled Basic (suc d)) (token ∷ rest) f
-applied_sound d s token rest make f makes None p e = absurd (none-some f e)
-applied_sound d s token rest make f makes (Some g) p e =
-    let b = s.begins rest g p in
-    begins_with Basic (suc d) (token ∷ b.front) g.rest (token ∷ rest) (make g.tree) f (ap (λ more. token ∷ more) b.cut) (makes d b.front g.tree b.spelled) e
+-- a token that is a prefix is its word
+prefix_sound : (token : List ℕ) (p : Prefix) → prefix_in token ≡ Some p → token ≡ prefix_word p
+prefix_sound token p r =
+    prefix_by token p (bytes_eq token (codes "!")) (bytes_eq token (codes "EX")) (bytes_eq token (codes "AX")) (bytes_eq token (codes "EF")) (bytes_eq token (codes "AF")) (bytes_eq token (codes "EG")) (bytes_eq token (codes "AG"))
+    refl refl refl refl refl refl refl r
+
+-- the same of a token before brackets
+paths_by : (token : List ℕ) (q : Paths) (some every : Bool) → bytes_eq token (codes "E") ≡ some → bytes_eq token (codes "A") ≡ every → cond some (Some SomePath) (cond every (Some EveryPath) None) ≡ Some q → token ≡ path_word q
+paths_by token q true b h k r = same_bytes token (codes "E") h ∙ ap path_word (same_Some SomePath q r)
+paths_by token q false true h k r = same_bytes token (codes "A") k ∙ ap path_word (same_Some EveryPath q r)
+paths_by token q false false h k r = absurd (none-some q r)
+
+-- a prefix and a formula behind it
+applied_sound : (d : ℕ) → IsSound (IsSpelled Basic d) (basic d) → (p : Prefix) (rest : List (List ℕ)) (f : Front Written)
+    → (o : Option (Front Written)) → basic d rest ≡ o → applied p o ≡ Some f → Begins (IsSpelled Basic (suc d)) (prefix_word p ∷ rest) f
+applied_sound d s p rest f None k e = absurd (none-some f e)
+applied_sound d s p rest f (Some g) k e =
+    let b = s.begins rest g k in
+    begins_with Basic (suc d) (prefix_word p ∷ b.front) g.rest (prefix_word p ∷ rest) (Prefixed p g.tree) f (ap (λ more. prefix_word p ∷ more) b.cut) (prefixed d p b.front g.tree b.spelled) e
+
+-- Two formulas in brackets, by what the tokens behind each part are: first by whether `]` follows.
+until_by_end : (d : ℕ) (q : Paths) (more middle : List (List ℕ)) (f g h : Front Written) → Begins (IsSpelled Implication d) more f → behind (codes "U") f.rest ≡ Some middle → Begins (IsSpelled Implication d) middle g
+    → (o : Option (List (List ℕ))) → behind (codes "]") g.rest ≡ o → option_map (λ rest. record { tree = Until q f.tree g.tree; rest = rest }) o ≡ Some h
+    → Begins (IsSpelled Basic (suc d)) (path_word q ∷ codes "[" ∷ more) h
+until_by_end d q more middle f g h a k b None p e = absurd (none-some h e)
+until_by_end d q more middle f g h a k b (Some rest) p e =
+    let second : middle ≡ (b.front ++ codes "]" ∷ []) ++ rest = b.cut ∙ ap (λ r. b.front ++ r) (behind_cut (codes "]") g.rest rest p) ∙ sym (append_assoc b.front (codes "]" ∷ []) rest) in
+    let first : more ≡ a.front ++ codes "U" ∷ middle = a.cut ∙ ap (λ r. a.front ++ r) (behind_cut (codes "U") f.rest middle k) in
+    let inside : more ≡ ((a.front ++ codes "U" ∷ b.front) ++ codes "]" ∷ []) ++ rest =
+    first ∙ ap (λ (r : List (List ℕ)). a.front ++ codes "U" ∷ r) second ∙ sym (append_assoc a.front (codes "U" ∷ (b.front ++ codes "]" ∷ [])) rest) ∙ ap (λ (r : List (List ℕ)). r ++ rest) (sym (append_assoc a.front (codes "U" ∷ b.front) (codes "]" ∷ []))) in
+    begins_with Basic (suc d) (path_word q ∷ codes "[" ∷ a.front ++ codes "U" ∷ b.front ++ codes "]" ∷ []) rest (path_word q ∷ codes "[" ∷ more) (Until q f.tree g.tree) h
+    (ap (λ (r : List (List ℕ)). path_word q ∷ codes "[" ∷ r) inside) (until d q a.front b.front f.tree g.tree a.spelled b.spelled) e
+
+module _ (d : ℕ) (s : IsSound (IsSpelled Basic d) (basic d)) (q : Paths) where
+  -- by the second formula
+  until_by_second : (more middle : List (List ℕ)) (f h : Front Written) → Begins (IsSpelled Implication d) more f → behind (codes "U") f.rest ≡ Some middle
+      → (o : Option (Front Written)) → implications (sums (basic d)) middle ≡ o → until_closed q f.tree o ≡ Some h → Begins (IsSpelled Basic (suc d)) (path_word q ∷ codes "[" ∷ more) h
+  until_by_second more middle f h a k None p e = absurd (none-some h e)
+  until_by_second more middle f h a k (Some g) p e = until_by_end d q more middle f g h a k ((wholes_sound d s).begins middle g p) (behind (codes "]") g.rest) refl e
+
+  -- by whether `U` follows
+  until_by_split : (more : List (List ℕ)) (f h : Front Written) → Begins (IsSpelled Implication d) more f → (o : Option (List (List ℕ))) → behind (codes "U") f.rest ≡ o
+      → option_and_then (λ (middle : List (List ℕ)). until_closed q f.tree (implications (sums (basic d)) middle)) o ≡ Some h → Begins (IsSpelled Basic (suc d)) (path_word q ∷ codes "[" ∷ more) h
+  until_by_split more f h a None k e = absurd (none-some h e)
+  until_by_split more f h a (Some middle) k e = until_by_second more middle f h a k (implications (sums (basic d)) middle) refl e
+
+  -- by the first formula
+  until_by_first : (more : List (List ℕ)) (h : Front Written) (o : Option (Front Written)) → implications (sums (basic d)) more ≡ o
+      → option_and_then (until_second q (implications (sums (basic d)))) o ≡ Some h → Begins (IsSpelled Basic (suc d)) (path_word q ∷ codes "[" ∷ more) h
+  until_by_first more h None p e = absurd (none-some h e)
+  until_by_first more h (Some f) p e = until_by_split more f h ((wholes_sound d s).begins more f p) (behind (codes "U") f.rest) refl e
+
+  -- by whether `[` stands in front
+  until_by_open : (rest : List (List ℕ)) (h : Front Written) (o : Option (List (List ℕ))) → behind (codes "[") rest ≡ o
+      → option_and_then (λ (more : List (List ℕ)). option_and_then (until_second q (implications (sums (basic d)))) (implications (sums (basic d)) more)) o ≡ Some h
+      → Begins (IsSpelled Basic (suc d)) (path_word q ∷ rest) h
+  until_by_open rest h None k e = absurd (none-some h e)
+  until_by_open rest h (Some more) k e =
+      subst (λ (r : List (List ℕ)). Begins (IsSpelled Basic (suc d)) (path_word q ∷ r) h) (sym (behind_cut (codes "[") rest more k))
+      (until_by_first more h (implications (sums (basic d)) more) refl e)
+
+  until_sound : (rest : List (List ℕ)) (h : Front Written) → reading.until q (implications (sums (basic d))) rest ≡ Some h → Begins (IsSpelled Basic (suc d)) (path_word q ∷ rest) h
+  unfolding reading.until
+  until_sound rest h e = until_by_open rest h (behind (codes "[") rest) refl e
 
 -- `(` and an implication behind it, by whether `)` follows
 closed_by : (d : ℕ) (rest : List (List ℕ)) (f g : Front Written) → Begins (IsSpelled Implication d) rest g
@@ -98,27 +170,31 @@ closed_sound : (d : ℕ) → IsSound (IsSpelled Basic d) (basic d) → (rest : L
 closed_sound d s rest f None p e = absurd (none-some f e)
 closed_sound d s rest f (Some g) p e = closed_by d rest f g ((wholes_sound d s).begins rest g p) (behind (codes ")") g.rest) refl e
 
--- the first token, by the outcomes of its tests
-under_by : (d : ℕ) → IsSound (IsSpelled Basic d) (basic d) → (token : List ℕ) (rest : List (List ℕ)) (f : Front Written) (not ex ax paren : Bool)
-    → bytes_eq token (codes "!") ≡ not → bytes_eq token (codes "EX") ≡ ex → bytes_eq token (codes "AX") ≡ ax → bytes_eq token (codes "(") ≡ paren
-    → under (basic d) token rest (cond not (Some Not) (cond ex (Some SomeNext) (cond ax (Some AllNext) None))) ≡ Some f → Begins (IsSpelled Basic (suc d)) (token ∷ rest) f
-under_by d s token rest f true b c o n p q r e =
-    applied_sound d s token rest Not f (subst (λ (t : List ℕ). Makes t Not) (sym (same_bytes token (codes "!") n)) negated) (basic d rest) refl e
-under_by d s token rest f false true c o n p q r e =
-    applied_sound d s token rest SomeNext f (subst (λ (t : List ℕ). Makes t SomeNext) (sym (same_bytes token (codes "EX") p)) some_next) (basic d rest) refl e
-under_by d s token rest f false false true o n p q r e =
-    applied_sound d s token rest AllNext f (subst (λ (t : List ℕ). Makes t AllNext) (sym (same_bytes token (codes "AX") q)) all_next) (basic d rest) refl e
-under_by d s token rest f false false false true n p q r e =
-    let read : closed (implications (sums (basic d)) rest) ≡ Some f = rw r at e in
-    subst (λ (t : List ℕ). Begins (IsSpelled Basic (suc d)) (t ∷ rest) f) (sym (same_bytes token (codes "(") r)) (closed_sound d s rest f (implications (sums (basic d)) rest) refl read)
-under_by d s token rest f false false false false n p q r e =
-    let none : None ≡ Some f = rw r at e in
-    absurd (none-some f none)
+-- what no prefix begins, by whether it begins with `(`
+paren_by : (d : ℕ) → IsSound (IsSpelled Basic d) (basic d) → (token : List ℕ) (rest : List (List ℕ)) (f : Front Written) (paren : Bool) → bytes_eq token (codes "(") ≡ paren
+    → cond paren (closed (implications (sums (basic d)) rest)) None ≡ Some f → Begins (IsSpelled Basic (suc d)) (token ∷ rest) f
+paren_by d s token rest f true r e =
+    subst (λ (t : List ℕ). Begins (IsSpelled Basic (suc d)) (t ∷ rest) f) (sym (same_bytes token (codes "(") r)) (closed_sound d s rest f (implications (sums (basic d)) rest) refl e)
+paren_by d s token rest f false r e = absurd (none-some f e)
 
--- so is what begins with an operator or `(`
+-- by whether it begins with a token before brackets
+brackets_by : (d : ℕ) → IsSound (IsSpelled Basic d) (basic d) → (token : List ℕ) (rest : List (List ℕ)) (f : Front Written) (o : Option Paths) → paths_in token ≡ o
+    → in_brackets (implications (sums (basic d))) token rest o ≡ Some f → Begins (IsSpelled Basic (suc d)) (token ∷ rest) f
+brackets_by d s token rest f None p e = paren_by d s token rest f (bytes_eq token (codes "(")) refl e
+brackets_by d s token rest f (Some q) p e =
+    subst (λ (t : List ℕ). Begins (IsSpelled Basic (suc d)) (t ∷ rest) f) (sym (paths_by token q (bytes_eq token (codes "E")) (bytes_eq token (codes "A")) refl refl p)) (until_sound d s q rest f e)
+
+-- by whether it begins with a prefix
+under_by : (d : ℕ) → IsSound (IsSpelled Basic d) (basic d) → (token : List ℕ) (rest : List (List ℕ)) (f : Front Written) (o : Option Prefix) → prefix_in token ≡ o
+    → under (basic d) token rest o ≡ Some f → Begins (IsSpelled Basic (suc d)) (token ∷ rest) f
+under_by d s token rest f None p e = brackets_by d s token rest f (paths_in token) refl e
+under_by d s token rest f (Some prefix) p e =
+    subst (λ (t : List ℕ). Begins (IsSpelled Basic (suc d)) (t ∷ rest) f) (sym (prefix_sound token prefix p)) (applied_sound d s prefix rest f (basic d rest) refl e)
+
+-- so is what begins with a prefix or brackets
 nested_sound : (d : ℕ) → IsSound (IsSpelled Basic d) (basic d) → (tokens : List (List ℕ)) (f : Front Written) → nested_by (basic d) tokens ≡ Some f → Begins (IsSpelled Basic (suc d)) tokens f
 nested_sound d s [] f e = absurd (none-some f e)
-nested_sound d s (token ∷ rest) f e = under_by d s token rest f (bytes_eq token (codes "!")) (bytes_eq token (codes "EX")) (bytes_eq token (codes "AX")) (bytes_eq token (codes "(")) refl refl refl refl e
+nested_sound d s (token ∷ rest) f e = under_by d s token rest f (prefix_in token) refl e
 
 -- a basic formula, by whether it is an atom
 basic_by : (d : ℕ) → IsSound (IsSpelled Basic d) (basic d) → (tokens : List (List ℕ)) (f : Front Written) (o : Option (Front Written)) → atom tokens ≡ o
@@ -159,6 +235,10 @@ pub sum_shortens : (d : ℕ) → Shortens (sum d)
 unfolding sum
 sum_shortens d = sums_shorten d
 
+-- the same of implications
+pub implication_shortens : (d : ℕ) → Shortens (implication d)
+implication_shortens d = sound_shortens (IsSpelled Implication d) (implication d) (implication_sound d)
+
 -- what a reading of tokens comes to that begin with some that are spelled as a tree, by level: that tree, or the loop
 -- that goes on behind it
 abbrev IsRead : Level → ℕ → List (List ℕ) → Written → Type 0
@@ -195,20 +275,28 @@ braces_read d v more rest h =
     (ap (λ (ts : List (List ℕ)). in_braces (names ts)) (append_assoc (listed (v ∷ more)) (codes "}" ∷ []) rest)
     ∙ ap in_braces (names_read v more (codes "}" ∷ rest) h refl))
 
--- a formula with an operator before it is read where the formula is
-negated_read : (d : ℕ) (tokens : List (List ℕ)) (f : Front Written) → basic d tokens ≡ Some f → basic (suc d) (codes "!" ∷ tokens) ≡ Some (record { tree = Not f.tree; rest = f.rest })
+-- a formula with a prefix before it is read where the formula is
+prefixed_read : (d : ℕ) (p : Prefix) (tokens : List (List ℕ)) (f : Front Written) → basic d tokens ≡ Some f → basic (suc d) (prefix_word p ∷ tokens) ≡ Some (record { tree = Prefixed p f.tree; rest = f.rest })
 unfolding basic atom
-negated_read d tokens f e = rw e
+prefixed_read d Negation tokens f e = rw e
+prefixed_read d SomeNext tokens f e = rw e
+prefixed_read d AllNext tokens f e = rw e
+prefixed_read d SomeFinally tokens f e = rw e
+prefixed_read d AllFinally tokens f e = rw e
+prefixed_read d SomeGlobally tokens f e = rw e
+prefixed_read d AllGlobally tokens f e = rw e
 
--- the same of `EX`
-some_next_read : (d : ℕ) (tokens : List (List ℕ)) (f : Front Written) → basic d tokens ≡ Some f → basic (suc d) (codes "EX" ∷ tokens) ≡ Some (record { tree = SomeNext f.tree; rest = f.rest })
-unfolding basic atom
-some_next_read d tokens f e = rw e
+-- two formulas in brackets are read where each is
+until_read_by : (d : ℕ) (q : Paths) (tokens middle rest : List (List ℕ)) (f g : Written) → implications (sums (basic d)) tokens ≡ Some (record { tree = f; rest = codes "U" ∷ middle })
+    → implications (sums (basic d)) middle ≡ Some (record { tree = g; rest = codes "]" ∷ rest }) → reading.until q (implications (sums (basic d))) (codes "[" ∷ tokens) ≡ Some (record { tree = Until q f g; rest = rest })
+unfolding reading.until
+until_read_by d q tokens middle rest f g a b = rw (a, b) refl
 
--- the same of `AX`
-all_next_read : (d : ℕ) (tokens : List (List ℕ)) (f : Front Written) → basic d tokens ≡ Some f → basic (suc d) (codes "AX" ∷ tokens) ≡ Some (record { tree = AllNext f.tree; rest = f.rest })
+until_read : (d : ℕ) (q : Paths) (tokens middle rest : List (List ℕ)) (f g : Written) → implications (sums (basic d)) tokens ≡ Some (record { tree = f; rest = codes "U" ∷ middle })
+    → implications (sums (basic d)) middle ≡ Some (record { tree = g; rest = codes "]" ∷ rest }) → basic (suc d) (path_word q ∷ codes "[" ∷ tokens) ≡ Some (record { tree = Until q f g; rest = rest })
 unfolding basic atom
-all_next_read d tokens f e = rw e
+until_read d SomePath tokens middle rest f g a b = until_read_by d SomePath tokens middle rest f g a b
+until_read d EveryPath tokens middle rest f g a b = until_read_by d EveryPath tokens middle rest f g a b
 
 -- so is an implication in brackets
 enclosed_read : (d : ℕ) (tokens rest : List (List ℕ)) (g : Written) → implications (sums (basic d)) tokens ≡ Some (record { tree = g; rest = codes ")" ∷ rest }) → basic (suc d) (codes "(" ∷ tokens) ≡ Some (record { tree = g; rest = rest })
@@ -229,9 +317,12 @@ spelled_read _ _ _ _ (truth d) = λ rest. word_read d (codes "true") rest True r
 spelled_read _ _ _ _ (falsity d) = λ rest. word_read d (codes "false") rest False refl refl
 spelled_read _ _ _ _ (name d p n) = λ rest. name_read d p rest n
 spelled_read _ _ _ _ (braces d v more n) = λ rest. braces_read d v more rest n
-spelled_read _ _ _ _ (negated d tokens g s) = λ rest. negated_read d (tokens ++ rest) (record { tree = g; rest = rest }) (spelled_read Basic d tokens g s rest)
-spelled_read _ _ _ _ (some_next d tokens g s) = λ rest. some_next_read d (tokens ++ rest) (record { tree = g; rest = rest }) (spelled_read Basic d tokens g s rest)
-spelled_read _ _ _ _ (all_next d tokens g s) = λ rest. all_next_read d (tokens ++ rest) (record { tree = g; rest = rest }) (spelled_read Basic d tokens g s rest)
+spelled_read _ _ _ _ (prefixed d p tokens g s) = λ rest. prefixed_read d p (tokens ++ rest) (record { tree = g; rest = rest }) (spelled_read Basic d tokens g s rest)
+spelled_read _ _ _ _ (until d q left right f g s t) = λ rest.
+    ap (λ (more : List (List ℕ)). basic (suc d) (path_word q ∷ codes "[" ∷ more))
+    (append_assoc (left ++ codes "U" ∷ right) (codes "]" ∷ []) rest ∙ append_assoc left (codes "U" ∷ right) (codes "]" ∷ rest))
+    ∙ until_read d q (left ++ codes "U" ∷ (right ++ codes "]" ∷ rest)) (right ++ codes "]" ∷ rest) rest f g
+    (spelled_read Implication d left f s (codes "U" ∷ (right ++ codes "]" ∷ rest)) refl refl refl) (spelled_read Implication d right g t (codes "]" ∷ rest) refl refl refl)
 spelled_read _ _ _ _ (enclosed d tokens g s) = λ rest.
     ap (λ more. basic (suc d) (codes "(" ∷ more)) (append_assoc tokens (codes ")" ∷ []) rest)
     ∙ enclosed_read d (tokens ++ codes ")" ∷ rest) rest g (spelled_read Implication d tokens g s (codes ")" ∷ rest) refl refl refl)

@@ -4,13 +4,17 @@ pub mod ElementCodes
 pub mod Facts
 pub mod FormulaReading
 pub mod Implications
+pub mod KindCases
+pub mod Monotone
 pub mod NameReading
 pub mod NameSteps
 pub mod Nodes
 pub mod ParserSteps
+pub mod PathFacts
 pub mod Printing
 pub mod Ranges
 pub mod Reading
+pub mod RoundTables
 pub mod Sizes
 pub mod TreeTables
 pub mod Verdicts

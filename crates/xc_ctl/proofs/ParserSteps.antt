@@ -6,11 +6,12 @@ use Rattle.xc_base.specs.declared.lines.Lexeme.{Lexeme}
 use Rattle.xc_base.specs.Operators.{Front, behind, chain}
 use Rattle.xc_base.proofs.Operators.{chain_ends, chain_goes, chain_fails, chained_begins, chained_fails, turn_shorter}
 use Rattle.xc_ctl.specs.Written.{Written, And, Or}
-use Rattle.xc_ctl.specs.FormulaReading.{atom, or_else, implying, sums, implications, nested_by, basic, nested, product, sum, implication}
-use Rattle.xc_ctl.proofs.FormulaReading.{basic_shortens, product_shortens, sum_shortens}
+use Rattle.xc_ctl.specs.FormulaReading.{atom, or_else, implying, until_closed, until, paths_in, in_brackets, under, nested_by, basic, nested, product, sum, implication}
+use Rattle.xc_ctl.specs.declared.prefix.Paths.{Paths}
+use Rattle.xc_ctl.proofs.FormulaReading.{basic_shortens, product_shortens, sum_shortens, implication_shortens}
 use Rattle.xc_ctl.proofs.Implications.{behind_less, implications_fail, implications_end, implications_go}
 
--- a basic formula is an atom, or else it begins with an operator or `(`
+-- a basic formula is an atom, or else it begins with a prefix or brackets
 pub basic_is : (d : ℕ) (tokens : List (List ℕ)) → basic d tokens ≡ or_else (atom tokens) (nested d tokens)
 unfolding basic nested
 basic_is zero tokens = by_atom (atom tokens)
@@ -35,13 +36,13 @@ nested_deeper (suc d) tokens h = ap (λ (k : ℕ). nested_by (basic k) tokens) s
     same : d ≡ suc d - 1
     same = omega arith
 
--- the steps of a formula that begins with an operator or `(`
+-- the steps of a formula that begins with a prefix or brackets
 pub ruleset nested_steps = (nested_flat, nested_deeper)
 
--- an implication is made of sums
-pub implication_is : (d : ℕ) (tokens : List (List ℕ)) → implication d tokens ≡ implications (sums (basic d)) tokens
+-- what stands behind no prefix is in brackets, in which implications stand
+pub under_brackets : (d : ℕ) (token : List ℕ) (rest : List (List ℕ)) → in_brackets (implication d) token rest (paths_in token) ≡ under (basic d) token rest None
 unfolding implication
-implication_is d tokens = refl
+under_brackets d token rest = refl
 
 -- tokens that begin with no basic formula are no product
 pub product_fails : (d : ℕ) (tokens : List (List ℕ)) → basic d tokens ≡ None → product d tokens ≡ None
@@ -127,3 +128,43 @@ implication_shorter d tokens rest more g p q =
 
 -- all steps of an implication
 pub ruleset implication_steps = (implication_fails, implication_ends, implication_goes, implication_shorter)
+
+module _ (d : ℕ) (q : Paths) (tokens : List (List ℕ)) where
+  -- with no `[` in front there is none
+  pub until_unopened : behind (codes "[") tokens ≡ None → until q (implication d) tokens ≡ None
+  unfolding until
+  until_unopened h = rw h refl
+
+  -- with no formula behind `[`
+  pub until_no_first : (more : List (List ℕ)) → behind (codes "[") tokens ≡ Some more → implication d more ≡ None → until q (implication d) tokens ≡ None
+  unfolding until
+  until_no_first more h k = rw (h, k) refl
+
+  -- with no `U` behind it
+  pub until_unsplit : (more rest : List (List ℕ)) (f : Written) → behind (codes "[") tokens ≡ Some more → implication d more ≡ Some (record { tree = f; rest = rest }) → behind (codes "U") rest ≡ None → until q (implication d) tokens ≡ None
+  unfolding until
+  until_unsplit more rest f h k m = rw (h, k, m) refl
+
+  -- with it, what stands behind it makes it whole
+  pub until_goes : (more rest second : List (List ℕ)) (f : Written) → behind (codes "[") tokens ≡ Some more → implication d more ≡ Some (record { tree = f; rest = rest }) → behind (codes "U") rest ≡ Some second
+      → until_closed q f (implication d second) ≡ until q (implication d) tokens
+  unfolding until
+  until_goes more rest second f h k m = rw (h, k, m) refl
+
+-- what stands behind `[` is less
+pub opened_shorter : (tokens more : List Lexeme) → behind (codes "[") (texts tokens) ≡ Some (texts more) → length more < length tokens
+opened_shorter tokens more h =
+    let a : length (texts more) < length (texts tokens) = behind_less (codes "[") (texts tokens) (texts more) h in
+    omega (arith, length-map tokens (λ (x : Lexeme). x.text.now), length-map more (λ (x : Lexeme). x.text.now))
+
+-- and what stands behind `U` still less
+pub second_shorter : (d : ℕ) (tokens more rest second : List Lexeme) (f : Written) → behind (codes "[") (texts tokens) ≡ Some (texts more) → implication d (texts more) ≡ Some (record { tree = f; rest = texts rest })
+    → behind (codes "U") (texts rest) ≡ Some (texts second) → length second < length tokens
+second_shorter d tokens more rest second f h k m =
+    let a : length (texts more) < length (texts tokens) = behind_less (codes "[") (texts tokens) (texts more) h in
+    let b = (implication_shortens d).shorter (texts more) (record { tree = f; rest = texts rest }) k in
+    let c : length (texts second) < length (texts rest) = behind_less (codes "U") (texts rest) (texts second) m in
+    omega (arith, length-map tokens (λ (x : Lexeme). x.text.now), length-map second (λ (x : Lexeme). x.text.now))
+
+-- all steps of two formulas in brackets
+pub ruleset until_steps = (until_unopened, until_no_first, until_unsplit, until_goes, opened_shorter, second_shorter)

@@ -1,5 +1,5 @@
 -- The constants and propositions of a formula whose names are known are in range.
-use Rattle.std.proofs.Common.{◌≡◌, ℕ, ◌+◌, Bool, true, List, [], ◌∷◌, ◌++◌, length, Option, Some, None, refl, ◌∙◌, subst}
+use Rattle.std.proofs.Common.{◌≡◌, ℕ, ◌+◌, Bool, true, nat_lt, List, [], ◌∷◌, ◌++◌, length, Option, Some, None, refl, ◌∙◌, subst}
 use Rattle.std.specs.List.{list_all, position}
 use Rattle.std.specs.Option.{option_map}
 use Rattle.std.specs.Str.{bytes_eq}
@@ -8,7 +8,7 @@ use Rattle.std.proofs.lemmas.List.Folds.{list_all-append}
 use Rattle.xc_theory.specs.Codes.{total, code_of, AreDigits}
 use Rattle.xc_theory.proofs.Codes.{codes_are_in_range}
 use Rattle.xc_base.proofs.Naming.{found_in_range}
-use Rattle.xc_ctl.specs.Written.{Written, True, False, Name, Braces, SomeNext, AllNext, Implies}
+use Rattle.xc_ctl.specs.Written.{Written, True, False, Name, Braces, Prefixed, Until, Implies}
 use Rattle.xc_ctl.specs.Written as written
 use Rattle.xc_ctl.specs.Trees.{Signature, Tree, is_fit, sizes_of, both, digits_named, element_named, resolved}
 use Rattle.xc_ctl.specs.Trees as trees
@@ -16,6 +16,10 @@ use Rattle.xc_ctl.specs.Tables.{size_of, nodes_from, is_kind_in, is_table_in}
 use Rattle.xc_ctl.specs.Printing.{is_tree_in}
 use Rattle.xc_ctl.specs.FormulaFiles.{table_in, tables_of}
 use Rattle.xc_ctl.specs.declared.kind.Kind.{Kind}
+use Rattle.xc_ctl.specs.declared.prefix.Prefix.{Prefix}
+use Rattle.xc_ctl.specs.declared.prefix.Prefix.TheVariants.{Negation, SomeNext, AllNext, SomeFinally, AllFinally, SomeGlobally, AllGlobally}
+use Rattle.xc_ctl.specs.declared.prefix.Paths.{Paths}
+use Rattle.xc_ctl.specs.declared.prefix.Paths.TheVariants.{SomePath, EveryPath}
 use Rattle.xc_ctl.proofs.ElementCodes.{fit}
 
 -- a digit and the digits behind it
@@ -50,20 +54,23 @@ const_in props parts values None e = refl
 const_in props parts values (Some row) e = lt-ltb (code_of (sizes_of parts) row) (total (sizes_of parts)) (codes_are_in_range (sizes_of parts) row (named_digits parts values row e))
 
 module _ (elements props : ℕ) where
-  -- a negation of what is in range
-  not_in : (o : Option Tree) → is_in elements props o ≡ true → is_in elements props (option_map trees.Not o) ≡ true
-  not_in None h = refl
-  not_in (Some t) h = h
+  -- what is behind a prefix
+  prefixed_in : (top : ℕ) (p : Prefix) (o : Option Tree) → nat_lt top elements ≡ true → is_in elements props o ≡ true → is_in elements props (option_map (trees.prefixed top p) o) ≡ true
+  prefixed_in top p None g h = refl
+  prefixed_in top Negation (Some t) g h = h
+  prefixed_in top SomeNext (Some t) g h = h
+  prefixed_in top AllNext (Some t) g h = h
+  prefixed_in top SomeFinally (Some t) g h = and_from _ _ g h
+  prefixed_in top AllFinally (Some t) g h = and_from _ _ g h
+  prefixed_in top SomeGlobally (Some t) g h = h
+  prefixed_in top AllGlobally (Some t) g h = and_from _ _ g h
 
-  -- what holds at some next state
-  ex_in : (o : Option Tree) → is_in elements props o ≡ true → is_in elements props (option_map trees.Ex o) ≡ true
-  ex_in None h = refl
-  ex_in (Some t) h = h
-
-  -- what holds at all
-  all_next_in : (o : Option Tree) → is_in elements props o ≡ true → is_in elements props (option_map (λ t. trees.Not (trees.Ex (trees.Not t))) o) ≡ true
-  all_next_in None h = refl
-  all_next_in (Some t) h = h
+  -- two in brackets
+  until_in : (q : Paths) (o p : Option Tree) → is_in elements props o ≡ true → is_in elements props p ≡ true → is_in elements props (both (trees.until q) o p) ≡ true
+  until_in q None p h k = refl
+  until_in q (Some s) None h k = refl
+  until_in SomePath (Some s) (Some t) h k = and_from _ _ h k
+  until_in EveryPath (Some s) (Some t) h k = and_from _ _ h k
 
   -- both
   and_in : (o p : Option Tree) → is_in elements props o ≡ true → is_in elements props p ≡ true → is_in elements props (both trees.And o p) ≡ true
@@ -89,9 +96,8 @@ known_in n h True = lt-ltb _ _ (fit n h).top
 known_in n h False = lt-ltb _ _ (fit n h).bottom
 known_in n h (Name p) = atom_in (total (sizes_of n.parts)) n.props p (position (bytes_eq p) n.props) refl
 known_in n h (Braces values) = const_in (length n.props) n.parts values (digits_named n.parts values) refl
-known_in n h (written.Not f) = not_in _ _ (resolved n f) (known_in n h f)
-known_in n h (SomeNext f) = ex_in _ _ (resolved n f) (known_in n h f)
-known_in n h (AllNext f) = all_next_in _ _ (resolved n f) (known_in n h f)
+known_in n h (Prefixed p f) = prefixed_in _ _ n.top p (resolved n f) (lt-ltb _ _ (fit n h).top) (known_in n h f)
+known_in n h (Until q f g) = until_in _ _ q (resolved n f) (resolved n g) (known_in n h f) (known_in n h g)
 known_in n h (written.And f g) = and_in _ _ (resolved n f) (resolved n g) (known_in n h f) (known_in n h g)
 known_in n h (written.Or f g) = or_in _ _ (resolved n f) (resolved n g) (known_in n h f) (known_in n h g)
 known_in n h (Implies f g) = implies_in _ _ (resolved n f) (resolved n g) (known_in n h f) (known_in n h g)
@@ -118,6 +124,9 @@ module _ (elements props : ℕ) where
   nodes_in k (trees.And s t) h = let p = and_parts _ _ h in both_more (nodes_from k s) (nodes_from (k + size_of s) t) _ (nodes_in k s p.0) (nodes_in (k + size_of s) t p.1) refl
   nodes_in k (trees.Or s t) h = let p = and_parts _ _ h in both_more (nodes_from k s) (nodes_from (k + size_of s) t) _ (nodes_in k s p.0) (nodes_in (k + size_of s) t p.1) refl
   nodes_in k (trees.Ex t) h = one_more (nodes_from k t) _ (nodes_in k t h) refl
+  nodes_in k (trees.Eu s t) h = let p = and_parts _ _ h in both_more (nodes_from k s) (nodes_from (k + size_of s) t) _ (nodes_in k s p.0) (nodes_in (k + size_of s) t p.1) refl
+  nodes_in k (trees.Au s t) h = let p = and_parts _ _ h in both_more (nodes_from k s) (nodes_from (k + size_of s) t) _ (nodes_in k s p.0) (nodes_in (k + size_of s) t p.1) refl
+  nodes_in k (trees.Eg t) h = one_more (nodes_from k t) _ (nodes_in k t h) refl
 
   -- where there is a tree
   table_range : (o : Option Tree) → is_in elements props o ≡ true → is_table_in elements props (table_in o) ≡ true

@@ -43,6 +43,17 @@ nodes_ordered k (trees.Or s t) =
     both_ordered k (size_of s) (size_of t) (nodes_from k s) (nodes_from (k + size_of s) t) _ (nodes_ordered k s) (nodes_length k s) (nodes_ordered (k + size_of s) t) (nodes_length (k + size_of s) t)
     (and_from _ _ (lt-ltb (k + size_of s - 1) (k + size_of s + size_of t) (omega arith)) (lt-ltb (k + size_of s + size_of t - 1) (k + size_of s + size_of t) (omega arith)))
 nodes_ordered k (trees.Ex t) = one_ordered k (size_of t) (nodes_from k t) _ (nodes_ordered k t) (nodes_length k t) (let some = size_some t in lt-ltb (k + size_of t - 1) (k + size_of t) (omega arith))
+nodes_ordered k (trees.Eu s t) =
+    let a = size_some s in
+    let b = size_some t in
+    both_ordered k (size_of s) (size_of t) (nodes_from k s) (nodes_from (k + size_of s) t) _ (nodes_ordered k s) (nodes_length k s) (nodes_ordered (k + size_of s) t) (nodes_length (k + size_of s) t)
+    (and_from _ _ (lt-ltb (k + size_of s - 1) (k + size_of s + size_of t) (omega arith)) (lt-ltb (k + size_of s + size_of t - 1) (k + size_of s + size_of t) (omega arith)))
+nodes_ordered k (trees.Au s t) =
+    let a = size_some s in
+    let b = size_some t in
+    both_ordered k (size_of s) (size_of t) (nodes_from k s) (nodes_from (k + size_of s) t) _ (nodes_ordered k s) (nodes_length k s) (nodes_ordered (k + size_of s) t) (nodes_length (k + size_of s) t)
+    (and_from _ _ (lt-ltb (k + size_of s - 1) (k + size_of s + size_of t) (omega arith)) (lt-ltb (k + size_of s + size_of t - 1) (k + size_of s + size_of t) (omega arith)))
+nodes_ordered k (trees.Eg t) = one_ordered k (size_of t) (nodes_from k t) _ (nodes_ordered k t) (nodes_length k t) (let some = size_some t in lt-ltb (k + size_of t - 1) (k + size_of t) (omega arith))
 
 -- with at most 256 nodes it is a table
 pub tree_is_table : (t : Tree) → size_of t ≤ 256 → is_table (nodes_of t) ≡ true

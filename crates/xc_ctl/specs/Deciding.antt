@@ -1,6 +1,6 @@
 -- Which formula a row is, and its table.
 -- Words for the steps of the code: public clauses do not rest on them.
-use Rattle.std.specs.Prelude.{◌≡◌, ℕ, cond, List, [], drop, map, Option, Some, None, Result, Err}
+use Rattle.std.specs.Prelude.{◌≡◌, ℕ, List, [], drop, map, Option, Some, None, Result, Err}
 use Rattle.xc_base.specs.Deciding.{excess_fault, unless, statements_of}
 use Rattle.xc_base.specs.Formats.{Row}
 use Rattle.xc_base.specs.declared.fault.FileFault.{FileFault}

@@ -4,11 +4,13 @@ use Rattle.std.specs.Str.{bytes_eq}
 use Rattle.xc_base.specs.Lines.{texts}
 use Rattle.xc_base.specs.Operators.{Front, behind, chained}
 use Rattle.xc_base.specs.Words.{is_name}
-use Rattle.xc_ctl.specs.Written.{Written, True, False, Name, Braces, Not, SomeNext, AllNext, And, Or, Implies, is_prop_name}
+use Rattle.xc_ctl.specs.Written.{Written, True, False, Name, Braces, Prefixed, Until, And, Or, Implies, is_prop_name}
 use Rattle.xc_ctl.specs.declared.phrase.Phrase.{Phrase}
 use Rattle.xc_ctl.specs.declared.phrase.Phrase.TheVariants as phrases
-use Rattle.xc_ctl.specs.declared.operators.Operator.{Operator}
-use Rattle.xc_ctl.specs.declared.operators.Operator.TheVariants as operators
+use Rattle.xc_ctl.specs.declared.prefix.Prefix.{Prefix}
+use Rattle.xc_ctl.specs.declared.prefix.Prefix.TheVariants.{Negation, SomeNext, AllNext, SomeFinally, AllFinally, SomeGlobally, AllGlobally}
+use Rattle.xc_ctl.specs.declared.prefix.Paths.{Paths}
+use Rattle.xc_ctl.specs.declared.prefix.Paths.TheVariants.{SomePath, EveryPath}
 use Rattle.xc_ctl.specs.declared.phrase.Parsed.{Parsed}
 use Rattle.xc_ctl.specs.declared.atom_parser.Named.{Named}
 use Rattle.xc_ctl.specs.declared.atom_parser.Listed.{Listed}
@@ -19,9 +21,8 @@ written phrases.True = True
 written phrases.False = False
 written (phrases.Name p) = Name p.now
 written (phrases.Braces values) = Braces (texts values)
-written (phrases.Not' p f) = Not (written f)
-written (phrases.SomeNext' p f) = SomeNext (written f)
-written (phrases.AllNext' p f) = AllNext (written f)
+written (phrases.Prefixed' prefix p f) = Prefixed prefix (written f)
+written (phrases.Until' paths p f q g) = Until paths (written f) (written g)
 written (phrases.And' p f q g) = And (written f) (written g)
 written (phrases.Or' p f q g) = Or (written f) (written g)
 written (phrases.Implies' p f q g) = Implies (written f) (written g)
@@ -63,22 +64,26 @@ unfoldable pub atom : List (List ℕ) → Option (Front Written)
 atom [] = None
 atom (token ∷ rest) = atom_at token rest
 
--- what an operator before a formula makes of it
-abbrev pub operator : List ℕ → Option (Written → Written)
-operator token =
-    if bytes_eq token (codes "!") then Some Not else
+-- the prefix that a token is
+abbrev pub prefix_in : List ℕ → Option Prefix
+prefix_in token =
+    if bytes_eq token (codes "!") then Some Negation else
     if bytes_eq token (codes "EX") then Some SomeNext else
-    if bytes_eq token (codes "AX") then Some AllNext else None
+    if bytes_eq token (codes "AX") then Some AllNext else
+    if bytes_eq token (codes "EF") then Some SomeFinally else
+    if bytes_eq token (codes "AF") then Some AllFinally else
+    if bytes_eq token (codes "EG") then Some SomeGlobally else
+    if bytes_eq token (codes "AG") then Some AllGlobally else None
 
--- the same of an operator of the code
-abbrev pub made_by : Operator → Written → Written
-made_by operators.Not = Not
-made_by operators.SomeNext = SomeNext
-made_by operators.AllNext = AllNext
+-- what the token before `[` says
+abbrev pub paths_in : List ℕ → Option Paths
+paths_in token =
+    if bytes_eq token (codes "E") then Some SomePath else
+    if bytes_eq token (codes "A") then Some EveryPath else None
 
--- with the operator before it
-abbrev pub applied : (Written → Written) → Option (Front Written) → Option (Front Written)
-applied make front = option_map (λ f. record { tree = make f.tree; rest = f.rest }) front
+-- with the prefix before it
+abbrev pub applied : Prefix → Option (Front Written) → Option (Front Written)
+applied p front = option_map (λ f. record { tree = Prefixed p f.tree; rest = f.rest }) front
 
 -- with `)` behind it, which is taken off
 abbrev pub closed : Option (Front Written) → Option (Front Written)
@@ -115,22 +120,39 @@ implications_up_to part (suc n) tokens = option_and_then (λ f. implied (implica
 unfoldable pub implications : (List (List ℕ) → Option (Front Written)) → List (List ℕ) → Option (Front Written)
 implications part tokens = implications_up_to part (suc (length tokens)) tokens
 
--- what comes of an operator, or of `(`, and of the tokens behind it
-abbrev pub under : (List (List ℕ) → Option (Front Written)) → List ℕ → List (List ℕ) → Option (Written → Written) → Option (Front Written)
-under inner token rest (Some make) = applied make (inner rest)
-under inner token rest None = if bytes_eq token (codes "(") then closed (implications (sums inner) rest) else None
+-- with a first formula and `U` before it and `]` behind it, which is taken off
+abbrev pub until_closed : Paths → Written → Option (Front Written) → Option (Front Written)
+until_closed q f front = option_and_then (λ g. option_map (λ more. record { tree = Until q f g.tree; rest = more }) (behind (codes "]") g.rest)) front
+
+-- what comes of a first formula, and of the tokens behind `U` where it follows
+abbrev pub until_second : Paths → (List (List ℕ) → Option (Front Written)) → Front Written → Option (Front Written)
+until_second q whole f = option_and_then (λ more. until_closed q f.tree (whole more)) (behind (codes "U") f.rest)
+
+-- two formulas with `[` before them, `U` between them and `]` behind them
+unfoldable pub until : Paths → (List (List ℕ) → Option (Front Written)) → List (List ℕ) → Option (Front Written)
+until q whole tokens = option_and_then (λ more. option_and_then (until_second q whole) (whole more)) (behind (codes "[") tokens)
+
+-- what comes of a token before brackets, or of `(`, and of the tokens behind it
+abbrev pub in_brackets : (List (List ℕ) → Option (Front Written)) → List ℕ → List (List ℕ) → Option Paths → Option (Front Written)
+in_brackets whole token rest (Some q) = until q whole rest
+in_brackets whole token rest None = if bytes_eq token (codes "(") then closed (whole rest) else None
+
+-- what comes of a prefix, or of a token before brackets, and of the tokens behind it
+abbrev pub under : (List (List ℕ) → Option (Front Written)) → List ℕ → List (List ℕ) → Option Prefix → Option (Front Written)
+under inner token rest (Some p) = applied p (inner rest)
+under inner token rest None = in_brackets (implications (sums inner)) token rest (paths_in token)
 
 -- the same of the first token and those behind it
 abbrev pub nested_by : (List (List ℕ) → Option (Front Written)) → List (List ℕ) → Option (Front Written)
 nested_by inner [] = None
-nested_by inner (token ∷ rest) = under inner token rest (operator token)
+nested_by inner (token ∷ rest) = under inner token rest (prefix_in token)
 
--- a formula with no operator between two outside of brackets, with at most so many operators and brackets around each other
+-- a formula with no operator between two outside of brackets, with at most so many prefixes and brackets around each other
 unfoldable pub basic : ℕ → List (List ℕ) → Option (Front Written)
 basic zero tokens = atom tokens
 basic (suc d) tokens = or_else (atom tokens) (nested_by (basic d) tokens)
 
--- those of them that begin with an operator or `(`
+-- those of them that begin with a prefix or brackets
 unfoldable pub nested : ℕ → List (List ℕ) → Option (Front Written)
 nested zero tokens = None
 nested (suc d) tokens = nested_by (basic d) tokens

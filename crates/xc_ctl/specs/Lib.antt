@@ -11,4 +11,5 @@ pub mod Reading
 pub mod Resolving
 pub mod Frames
 pub mod Denotations
+pub mod Rounds
 pub mod Laws

@@ -5,7 +5,7 @@ use Rattle.xc_theory.specs.Codes.{digits}
 use Rattle.xc_base.specs.Names.{name_at}
 use Rattle.xc_ctl.specs.Written.{listed}
 use Rattle.xc_ctl.specs.Texts.{is_and, is_or, digit_names}
-use Rattle.xc_ctl.specs.Trees.{Tree, Const, Atom, Not, And, Or, Ex, sizes_of}
+use Rattle.xc_ctl.specs.Trees.{Tree, Const, Atom, Not, And, Or, Ex, Eu, Au, Eg, sizes_of}
 
 -- constants are below the number of elements, and propositions below that of propositions
 abbrev pub is_tree_in : ℕ → ℕ → Tree → Bool
@@ -15,6 +15,9 @@ is_tree_in elements props (Not t) = is_tree_in elements props t
 is_tree_in elements props (And s t) = is_tree_in elements props s && is_tree_in elements props t
 is_tree_in elements props (Or s t) = is_tree_in elements props s && is_tree_in elements props t
 is_tree_in elements props (Ex t) = is_tree_in elements props t
+is_tree_in elements props (Eu s t) = is_tree_in elements props s && is_tree_in elements props t
+is_tree_in elements props (Au s t) = is_tree_in elements props s && is_tree_in elements props t
+is_tree_in elements props (Eg t) = is_tree_in elements props t
 
 -- whether two formulas stand in it with an operator between them
 abbrev pub is_joined : Tree → Bool

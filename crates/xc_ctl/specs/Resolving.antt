@@ -6,8 +6,10 @@ use Rattle.std.specs.Option.{option_map}
 use Rattle.std.specs.Str.{bytes_eq}
 use Rattle.xc_theory.specs.Codes.{total}
 use Rattle.xc_base.specs.Names.{name_at}
-use Rattle.xc_ctl.specs.Trees.{Signature, Tree, Const, Atom, Not, And, Or, Ex, sizes_of, element_named}
+use Rattle.xc_ctl.specs.Trees.{Signature, Tree, Const, Atom, Not, And, Or, Ex, Eu, Au, Eg, sizes_of, element_named}
 use Rattle.xc_ctl.specs.declared.vocabulary.Vocabulary.{Vocabulary}
+use Rattle.xc_ctl.specs.declared.kind.Kind.{Kind}
+use Rattle.xc_ctl.specs.declared.kind.Kind.TheVariants as kinds
 use Rattle.xc_ctl.specs.declared.tree.Tree.{Tree as Boxed}
 use Rattle.xc_ctl.specs.declared.tree.Tree.TheVariants as boxed
 
@@ -23,6 +25,21 @@ tree_of (boxed.Not' p t) = Not (tree_of t)
 tree_of (boxed.And' p s q t) = And (tree_of s) (tree_of t)
 tree_of (boxed.Or' p s q t) = Or (tree_of s) (tree_of t)
 tree_of (boxed.Ex' p t) = Ex (tree_of t)
+tree_of (boxed.Eu' p s q t) = Eu (tree_of s) (tree_of t)
+tree_of (boxed.Au' p s q t) = Au (tree_of s) (tree_of t)
+tree_of (boxed.Eg' p t) = Eg (tree_of t)
+
+-- the node of a tree whose children have these numbers
+abbrev pub kind_of : Tree → ℕ → ℕ → Kind
+kind_of (Const c) i j = kinds.Const c
+kind_of (Atom p) i j = kinds.Atom p
+kind_of (Not t) i j = kinds.Not i
+kind_of (And s t) i j = kinds.And i j
+kind_of (Or s t) i j = kinds.Or i j
+kind_of (Ex t) i j = kinds.Ex i
+kind_of (Eu s t) i j = kinds.Eu i j
+kind_of (Au s t) i j = kinds.Au i j
+kind_of (Eg t) i j = kinds.Eg i
 
 -- the names of the part at a place
 abbrev pub part_at : List (List (List ℕ)) → ℕ → List (List ℕ)

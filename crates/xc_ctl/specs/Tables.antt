@@ -4,7 +4,7 @@ use Rattle.std.specs.List.{list_all, slice_index_or}
 use Rattle.xc_ctl.specs.Trees.{Tree}
 use Rattle.xc_ctl.specs.Trees as trees
 use Rattle.xc_ctl.specs.declared.kind.Kind.{Kind}
-use Rattle.xc_ctl.specs.declared.kind.Kind.TheVariants.{Const, Atom, Not, And, Or, Ex}
+use Rattle.xc_ctl.specs.declared.kind.Kind.TheVariants.{Const, Atom, Not, And, Or, Ex, Eu, Au, Eg}
 
 -- how many nodes a tree has
 abbrev pub size_of : Tree → ℕ
@@ -14,6 +14,9 @@ size_of (trees.Not t) = size_of t + 1
 size_of (trees.And s t) = size_of s + size_of t + 1
 size_of (trees.Or s t) = size_of s + size_of t + 1
 size_of (trees.Ex t) = size_of t + 1
+size_of (trees.Eu s t) = size_of s + size_of t + 1
+size_of (trees.Au s t) = size_of s + size_of t + 1
+size_of (trees.Eg t) = size_of t + 1
 
 -- its nodes, numbered from k on: those of the left child, then those of the right one, then its own
 abbrev pub nodes_from : ℕ → Tree → List Kind
@@ -23,6 +26,9 @@ nodes_from k (trees.Not t) = nodes_from k t ++ Not (k + size_of t - 1) ∷ []
 nodes_from k (trees.And s t) = nodes_from k s ++ nodes_from (k + size_of s) t ++ And (k + size_of s - 1) (k + size_of s + size_of t - 1) ∷ []
 nodes_from k (trees.Or s t) = nodes_from k s ++ nodes_from (k + size_of s) t ++ Or (k + size_of s - 1) (k + size_of s + size_of t - 1) ∷ []
 nodes_from k (trees.Ex t) = nodes_from k t ++ Ex (k + size_of t - 1) ∷ []
+nodes_from k (trees.Eu s t) = nodes_from k s ++ nodes_from (k + size_of s) t ++ Eu (k + size_of s - 1) (k + size_of s + size_of t - 1) ∷ []
+nodes_from k (trees.Au s t) = nodes_from k s ++ nodes_from (k + size_of s) t ++ Au (k + size_of s - 1) (k + size_of s + size_of t - 1) ∷ []
+nodes_from k (trees.Eg t) = nodes_from k t ++ Eg (k + size_of t - 1) ∷ []
 
 abbrev pub nodes_of : Tree → List Kind
 nodes_of tree = nodes_from 0 tree
@@ -35,6 +41,9 @@ first_child (Not i) = i
 first_child (And i j) = i
 first_child (Or i j) = i
 first_child (Ex i) = i
+first_child (Eu i j) = i
+first_child (Au i j) = i
+first_child (Eg i) = i
 
 abbrev pub second_child : Kind → ℕ
 second_child (Const c) = 0
@@ -43,6 +52,9 @@ second_child (Not i) = 0
 second_child (And i j) = j
 second_child (Or i j) = j
 second_child (Ex i) = 0
+second_child (Eu i j) = j
+second_child (Au i j) = j
+second_child (Eg i) = 0
 
 -- the children of a node have numbers below k
 abbrev pub has_children_below : ℕ → Kind → Bool
@@ -52,6 +64,9 @@ has_children_below k (Not i) = nat_lt i k
 has_children_below k (And i j) = nat_lt i k && nat_lt j k
 has_children_below k (Or i j) = nat_lt i k && nat_lt j k
 has_children_below k (Ex i) = nat_lt i k
+has_children_below k (Eu i j) = nat_lt i k && nat_lt j k
+has_children_below k (Au i j) = nat_lt i k && nat_lt j k
+has_children_below k (Eg i) = nat_lt i k
 
 -- of nodes numbered from k on each has its children before it
 abbrev pub are_ordered_from : ℕ → List Kind → Bool
@@ -70,6 +85,9 @@ is_kind_in elements props (Not i) = true
 is_kind_in elements props (And i j) = true
 is_kind_in elements props (Or i j) = true
 is_kind_in elements props (Ex i) = true
+is_kind_in elements props (Eu i j) = true
+is_kind_in elements props (Au i j) = true
+is_kind_in elements props (Eg i) = true
 
 abbrev pub is_table_in : ℕ → ℕ → List Kind → Bool
 is_table_in elements props nodes = list_all (is_kind_in elements props) nodes

@@ -5,8 +5,12 @@ use Rattle.std.specs.Option.{option_map}
 use Rattle.std.specs.Str.{bytes_eq}
 use Rattle.xc_theory.specs.Codes.{total, code_of}
 use Rattle.xc_base.specs.Names.{has_twice}
-use Rattle.xc_ctl.specs.Written.{Written, True, False, Name, Braces, SomeNext, AllNext, Implies}
+use Rattle.xc_ctl.specs.Written.{Written, True, False, Name, Braces, Prefixed, Until, Implies}
 use Rattle.xc_ctl.specs.Written as written
+use Rattle.xc_ctl.specs.declared.prefix.Prefix.{Prefix}
+use Rattle.xc_ctl.specs.declared.prefix.Prefix.TheVariants.{Negation, SomeNext, AllNext, SomeFinally, AllFinally, SomeGlobally, AllGlobally}
+use Rattle.xc_ctl.specs.declared.prefix.Paths.{Paths}
+use Rattle.xc_ctl.specs.declared.prefix.Paths.TheVariants.{SomePath, EveryPath}
 
 -- what formulas are about: the names of the propositions, those of the elements of each part, and the codes of the bottom
 -- and the top
@@ -38,6 +42,9 @@ pub data Tree : Type 0 where
   And : Tree → Tree → Tree
   Or : Tree → Tree → Tree
   Ex : Tree → Tree
+  Eu : Tree → Tree → Tree
+  Au : Tree → Tree → Tree
+  Eg : Tree → Tree
 
 abbrev pub both : {X Y Z : Type 0} → (X → Y → Z) → Option X → Option Y → Option Z
 both f None o = None
@@ -54,15 +61,30 @@ digits_named (names ∷ parts) (v ∷ values) = both (λ digit row. digit ∷ ro
 abbrev pub element_named : List (List (List ℕ)) → List (List ℕ) → Option ℕ
 element_named parts values = option_map (code_of (sizes_of parts)) (digits_named parts values)
 
--- A formula written out, where its names are known: `AX f` is `!EX!f`, and `a -> b` is `!a | b`.
+-- A formula behind a prefix, written out: `AX f` is `!EX!f`, `EF f` is `E[true U f]`, `AF f` is `A[true U f]`, and `AG f` is
+-- `!E[true U !f]`.
+abbrev pub prefixed : ℕ → Prefix → Tree → Tree
+prefixed top Negation t = Not t
+prefixed top SomeNext t = Ex t
+prefixed top AllNext t = Not (Ex (Not t))
+prefixed top SomeFinally t = Eu (Const top) t
+prefixed top AllFinally t = Au (Const top) t
+prefixed top SomeGlobally t = Eg t
+prefixed top AllGlobally t = Not (Eu (Const top) (Not t))
+
+-- two formulas in brackets
+abbrev pub until : Paths → Tree → Tree → Tree
+until SomePath s t = Eu s t
+until EveryPath s t = Au s t
+
+-- A formula written out, where its names are known: `a -> b` is `!a | b`.
 abbrev pub resolved : Signature → Written → Option Tree
 resolved n True = Some (Const n.top)
 resolved n False = Some (Const n.bottom)
 resolved n (Name p) = option_map Atom (position (bytes_eq p) n.props)
 resolved n (Braces values) = option_map Const (element_named n.parts values)
-resolved n (written.Not f) = option_map Not (resolved n f)
-resolved n (SomeNext f) = option_map Ex (resolved n f)
-resolved n (AllNext f) = option_map (λ t. Not (Ex (Not t))) (resolved n f)
+resolved n (Prefixed p f) = option_map (prefixed n.top p) (resolved n f)
+resolved n (Until q f g) = both (until q) (resolved n f) (resolved n g)
 resolved n (written.And f g) = both And (resolved n f) (resolved n g)
 resolved n (written.Or f g) = both Or (resolved n f) (resolved n g)
 resolved n (Implies f g) = both (λ s t. Or (Not s) t) (resolved n f) (resolved n g)

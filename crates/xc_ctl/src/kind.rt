@@ -8,4 +8,10 @@ pub enum Kind {
     Or(u16, u16),
     /// What holds at some next state.
     Ex(u16),
+    /// The second holds on some path, and until then the first.
+    Eu(u16, u16),
+    /// The second holds on each path, and until then the first.
+    Au(u16, u16),
+    /// What holds all along some path.
+    Eg(u16),
 }

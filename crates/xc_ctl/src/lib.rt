@@ -4,25 +4,31 @@
 mod atom_parser;
 mod elements;
 mod formula;
+mod framed;
 mod kind;
 mod laws;
 mod numbering;
 mod operators;
 mod parser;
 mod phrase;
+mod prefix;
 mod printer;
 mod reader;
 mod resolver;
+mod rounds;
 mod rows;
 mod tree;
 mod verdict;
 mod vocabulary;
 mod words;
+mod written_out;
 
 pub use formula::{Formula, Formulas};
+pub use framed::{Framed, machines_are_frames, weighed};
 pub use kind::Kind;
-pub use laws::{formulas_are_read, formulas_have_one_denotation};
+pub use laws::{formulas_are_read, formulas_have_one_denotation, formulas_have_one_table};
 pub use reader::read_formulas;
+pub use rounds::Rounds;
 pub use verdict::files_have_one_reading;
 
 #[cfg(test)]

@@ -2,7 +2,7 @@
 
 ghost use Rattle.std.specs.Prelude.{◌≡◌, ◌+◌, ◌-◌, ◌≤◌, ◌++◌, length, IfOk, OnOk};
 ghost use Rattle.xc_ctl.specs.Tables.{size_of, nodes_from, nodes_of};
-ghost use Rattle.xc_ctl.specs.Resolving.{tree_of};
+ghost use Rattle.xc_ctl.specs.Resolving.{tree_of, kind_of};
 
 use crate::kind::Kind;
 use crate::tree::Tree;
@@ -16,8 +16,11 @@ pub(crate) fn size(tree: &Tree) -> usize
 {
     match tree {
         Tree::Const(_) | Tree::Atom(_) => 1,
-        Tree::Not(inner) | Tree::Ex(inner) => size(inner) + 1,
-        Tree::And(left, right) | Tree::Or(left, right) => size(left) + size(right) + 1,
+        Tree::Not(inner) | Tree::Ex(inner) | Tree::Eg(inner) => size(inner) + 1,
+        Tree::And(left, right)
+        | Tree::Or(left, right)
+        | Tree::Eu(left, right)
+        | Tree::Au(left, right) => size(left) + size(right) + 1,
     }
 }
 
@@ -30,6 +33,23 @@ fn last(nodes: &List<Kind>) -> u16
     (nodes.len() - 1) as u16
 }
 
+/// The node of a tree whose children have these numbers.
+fn node(tree: &Tree, first: u16, second: u16) -> Kind
+    ensures { result ≡ kind_of (tree_of tree.now) first second }
+{
+    match tree {
+        Tree::Const(code) => Kind::Const(*code),
+        Tree::Atom(place) => Kind::Atom(*place),
+        Tree::Not(_) => Kind::Not(first),
+        Tree::And(..) => Kind::And(first, second),
+        Tree::Or(..) => Kind::Or(first, second),
+        Tree::Ex(_) => Kind::Ex(first),
+        Tree::Eu(..) => Kind::Eu(first, second),
+        Tree::Au(..) => Kind::Au(first, second),
+        Tree::Eg(_) => Kind::Eg(first),
+    }
+}
+
 /// Appends the nodes of a tree.
 #[tactic(auto, using(std::proofs::lemmas::Grind::common_steps, crate::proofs::Nodes::node_steps))]
 fn push_nodes(tree: &Tree, nodes: &mut List<Kind>) -> Result<(), Memory>
@@ -38,31 +58,21 @@ fn push_nodes(tree: &Tree, nodes: &mut List<Kind>) -> Result<(), Memory>
     ensures count { OnOk result (length nodes.new ≡ length nodes.old + size_of (tree_of tree.now)) }
 {
     match tree {
-        Tree::Const(code) => nodes.push(Kind::Const(*code)),
-        Tree::Atom(place) => nodes.push(Kind::Atom(*place)),
-        Tree::Not(inner) => {
+        Tree::Const(_) | Tree::Atom(_) => nodes.push(node(tree, 0, 0)),
+        Tree::Not(inner) | Tree::Ex(inner) | Tree::Eg(inner) => {
             push_nodes(inner, nodes)?;
             let child = last(nodes);
-            nodes.push(Kind::Not(child))
+            nodes.push(node(tree, child, 0))
         }
-        Tree::Ex(inner) => {
-            push_nodes(inner, nodes)?;
-            let child = last(nodes);
-            nodes.push(Kind::Ex(child))
-        }
-        Tree::And(left, right) => {
+        Tree::And(left, right)
+        | Tree::Or(left, right)
+        | Tree::Eu(left, right)
+        | Tree::Au(left, right) => {
             push_nodes(left, nodes)?;
             let first = last(nodes);
             push_nodes(right, nodes)?;
             let second = last(nodes);
-            nodes.push(Kind::And(first, second))
-        }
-        Tree::Or(left, right) => {
-            push_nodes(left, nodes)?;
-            let first = last(nodes);
-            push_nodes(right, nodes)?;
-            let second = last(nodes);
-            nodes.push(Kind::Or(first, second))
+            nodes.push(node(tree, first, second))
         }
     }
 }

@@ -3,58 +3,25 @@
 ghost use Rattle.std.specs.Prelude.{◌≡◌, IfOk};
 ghost use Rattle.std.specs.Option.{option_map};
 ghost use Rattle.xc_ctl.specs.Written.{And, Or};
-ghost use Rattle.xc_ctl.specs.FormulaReading.{written, front_of, operator, made_by, applied, closed, implying};
+ghost use Rattle.xc_ctl.specs.FormulaReading.{written, front_of, applied, closed, until_closed, implying};
 
 use crate::phrase::{Parsed, Phrase};
+use crate::prefix::{Paths, Prefix};
 use std::alloc::Global;
 use xc_base::{Memory, behind};
 
-/// An operator before a formula.
-#[derive(Clone, Copy, Debug)]
-pub(crate) enum Operator {
-    Not,
-    SomeNext,
-    AllNext,
-}
-
-/// The operator that a token is, where it is one.
-pub(crate) fn operator_of(token: &[u8]) -> Option<Operator>
-    ensures { option_map made_by result ≡ operator token.now }
-{
-    if token == b"!".as_slice() {
-        Some(Operator::Not)
-    } else if token == b"EX".as_slice() {
-        Some(Operator::SomeNext)
-    } else if token == b"AX".as_slice() {
-        Some(Operator::AllNext)
-    } else {
-        None
-    }
-}
-
-fn apply<'a>(alloc: Global, operator: Operator, phrase: Phrase<'a>) -> Result<Phrase<'a>, Memory>
-    ensures { IfOk result (λ made. written made ≡ made_by operator (written phrase.entry)) }
-{
-    let inner = Box::new(alloc, phrase)?;
-    match operator {
-        Operator::Not => Ok(Phrase::Not(inner)),
-        Operator::SomeNext => Ok(Phrase::SomeNext(inner)),
-        Operator::AllNext => Ok(Phrase::AllNext(inner)),
-    }
-}
-
-/// With the operator before it.
+/// With the prefix before it.
 pub(crate) fn applied<'t, 'a>(
     alloc: Global,
-    operator: Operator,
+    prefix: Prefix,
     parsed: Option<Parsed<'t, 'a>>,
 ) -> Result<Option<Parsed<'t, 'a>>, Memory>
     ensures { IfOk result
-        (λ p. option_map front_of p ≡ applied (made_by operator) (option_map front_of parsed.entry)) }
+        (λ p. option_map front_of p ≡ applied prefix (option_map front_of parsed.entry)) }
 {
     match parsed {
         Some(p) => Ok(Some(Parsed {
-            phrase: apply(alloc, operator, p.phrase)?,
+            phrase: Phrase::Prefixed(prefix, Box::new(alloc, p.phrase)?),
             rest: p.rest,
         })),
         None => Ok(None),
@@ -71,6 +38,28 @@ pub(crate) fn closed<'t, 'a>(parsed: Option<Parsed<'t, 'a>>) -> Option<Parsed<'t
         phrase: p.phrase,
         rest,
     })
+}
+
+/// With a first formula before it and `]` behind it, which is taken off.
+pub(crate) fn until_closed<'t, 'a>(
+    alloc: Global,
+    paths: Paths,
+    left: Phrase<'a>,
+    right: Option<Parsed<'t, 'a>>,
+) -> Result<Option<Parsed<'t, 'a>>, Memory>
+    ensures { IfOk result
+        (λ p. option_map front_of p ≡ until_closed paths (written left.entry) (option_map front_of right.entry)) }
+{
+    let Some(p) = right else {
+        return Ok(None);
+    };
+    let Some(rest) = behind(p.rest, b"]") else {
+        return Ok(None);
+    };
+    Ok(Some(Parsed {
+        phrase: Phrase::Until(paths, Box::new(alloc, left)?, Box::new(alloc, p.phrase)?),
+        rest,
+    }))
 }
 
 /// Both.

@@ -4,18 +4,62 @@ ghost use Rattle.std.specs.Prelude.{◌≡◌, IfOk};
 ghost use Rattle.std.specs.Option.{option_map};
 ghost use Rattle.xc_base.specs.Lines.{texts};
 ghost use Rattle.xc_ctl.specs.Reading.{formula_in};
-ghost use Rattle.xc_ctl.specs.FormulaReading.{written, front_of, operator, under, nested_by, basic, nested, product, sum, implication};
+ghost use Rattle.xc_ctl.specs.FormulaReading.{written, front_of, prefix_in, paths_in, until, in_brackets, under, nested_by, basic, nested, product, sum, implication};
 
 use crate::atom_parser::atom;
-use crate::operators::{and, applied, closed, implying, operator_of, or};
+use crate::operators::{and, applied, closed, implying, or, until_closed};
 use crate::phrase::{Parsed, Phrase};
+use crate::prefix::{Paths, paths_in, prefix_in};
 use std::alloc::Global;
 use xc_base::{Lexeme, Memory, behind};
 
-/// How many operators and brackets may stand around each other.
+/// How many prefixes and brackets may stand around each other.
 const DEPTH_LIMIT: usize = 512;
 
-#[tactic(auto, using(crate::proofs::ParserSteps::implication_is))]
+#[tactic(auto, using(crate::proofs::ParserSteps::until_steps))]
+#[cycle(parser)]
+fn until<'t, 'a>(
+    alloc: Global,
+    paths: Paths,
+    tokens: &'t [Lexeme<'a>],
+    depth: usize,
+) -> Result<Option<Parsed<'t, 'a>>, Memory>
+    ensures { IfOk result (λ p. option_map front_of p ≡ until paths (implication depth) (texts tokens.now)) }
+{
+    let Some(more) = behind(tokens, b"[") else {
+        return Ok(None);
+    };
+    let Some(left) = implication(alloc, more, depth)? else {
+        return Ok(None);
+    };
+    let Some(middle) = behind(left.rest, b"U") else {
+        return Ok(None);
+    };
+    let right = implication(alloc, middle, depth)?;
+    until_closed(alloc, paths, left.phrase, right)
+}
+
+#[cycle(parser)]
+fn in_brackets<'t, 'a>(
+    alloc: Global,
+    token: &[u8],
+    rest: &'t [Lexeme<'a>],
+    depth: usize,
+) -> Result<Option<Parsed<'t, 'a>>, Memory>
+    ensures { IfOk result
+        (λ p. option_map front_of p ≡ in_brackets (implication depth) token.now (texts rest.now) (paths_in token.now)) }
+{
+    if let Some(paths) = paths_in(token) {
+        until(alloc, paths, rest, depth)
+    } else if token == b"(".as_slice() {
+        let inner = implication(alloc, rest, depth)?;
+        Ok(closed(inner))
+    } else {
+        Ok(None)
+    }
+}
+
+#[tactic(auto, using(crate::proofs::ParserSteps::under_brackets))]
 #[cycle(parser)]
 fn under<'t, 'a>(
     alloc: Global,
@@ -24,16 +68,13 @@ fn under<'t, 'a>(
     depth: usize,
 ) -> Result<Option<Parsed<'t, 'a>>, Memory>
     ensures { IfOk result
-        (λ p. option_map front_of p ≡ under (basic depth) token.now (texts rest.now) (operator token.now)) }
+        (λ p. option_map front_of p ≡ under (basic depth) token.now (texts rest.now) (prefix_in token.now)) }
 {
-    if let Some(operator) = operator_of(token) {
+    if let Some(prefix) = prefix_in(token) {
         let inner = basic(alloc, rest, depth)?;
-        applied(alloc, operator, inner)
-    } else if token == b"(".as_slice() {
-        let inner = implication(alloc, rest, depth)?;
-        Ok(closed(inner))
+        applied(alloc, prefix, inner)
     } else {
-        Ok(None)
+        in_brackets(alloc, token, rest, depth)
     }
 }
 

@@ -1,3 +1,4 @@
+use crate::prefix::{Paths, Prefix};
 use xc_base::{Lexeme, List};
 
 /// A formula as it is written, with names.
@@ -9,9 +10,8 @@ pub(crate) enum Phrase<'a> {
     Name(&'a [u8]),
     /// An element, by the names between `{` and `}`.
     Braces(List<Lexeme<'a>>),
-    Not(Box<Phrase<'a>>),
-    SomeNext(Box<Phrase<'a>>),
-    AllNext(Box<Phrase<'a>>),
+    Prefixed(Prefix, Box<Phrase<'a>>),
+    Until(Paths, Box<Phrase<'a>>, Box<Phrase<'a>>),
     And(Box<Phrase<'a>>, Box<Phrase<'a>>),
     Or(Box<Phrase<'a>>, Box<Phrase<'a>>),
     Implies(Box<Phrase<'a>>, Box<Phrase<'a>>),

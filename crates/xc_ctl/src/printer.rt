@@ -6,7 +6,7 @@ ghost use Rattle.xc_theory.specs.Codes.{total};
 ghost use Rattle.xc_base.specs.Lines.{texts};
 ghost use Rattle.xc_base.specs.Names.{name_at};
 ghost use Rattle.xc_ctl.specs.Trees.{is_part, sizes_of};
-ghost use Rattle.xc_ctl.specs.Texts.{is_and, is_or, element_tokens, bracketed, tokens_of, text_of};
+ghost use Rattle.xc_ctl.specs.Texts.{is_and, is_or, element_tokens, bracketed, until_tokens, tokens_of, text_of};
 ghost use Rattle.xc_ctl.specs.Resolving.{signature, tree_of, part_at};
 ghost use Rattle.xc_ctl.specs.Printing.{is_tree_in, is_joined, only_if, digits_from, element_braces};
 
@@ -141,6 +141,46 @@ fn push_operand<'v>(
     push_if(tokens, b")", brackets)
 }
 
+/// Appends an operator and what it stands before.
+#[tactic(auto, using(crate::proofs::Printing::tree_steps))]
+#[cycle(printer)]
+fn push_prefixed<'v>(
+    word: &'v [u8],
+    tree: &Tree,
+    vocabulary: &Vocabulary<'v>,
+    tokens: &mut Tokens<'v>,
+) -> Result<(), Memory>
+    requires { is_tree_in (total (sizes_of vocabulary.now.parts.now)) (length vocabulary.now.props.now) (tree_of tree.now) ≡ true }
+    ensures { OnOk result (texts tokens.new
+        ≡ texts tokens.old ++ word.now ∷ bracketed (is_joined (tree_of tree.now)) (tokens_of (signature vocabulary.now) (tree_of tree.now))) }
+{
+    push(tokens, word)?;
+    push_operand(tree, vocabulary, is_joined(tree), tokens)
+}
+
+/// Appends two formulas in brackets, with a token before them.
+#[tactic(auto, using(crate::proofs::Printing::tree_steps))]
+#[cycle(printer)]
+fn push_until<'v>(
+    word: &'v [u8],
+    left: &Tree,
+    right: &Tree,
+    vocabulary: &Vocabulary<'v>,
+    tokens: &mut Tokens<'v>,
+) -> Result<(), Memory>
+    requires left { is_tree_in (total (sizes_of vocabulary.now.parts.now)) (length vocabulary.now.props.now) (tree_of left.now) ≡ true }
+    requires right { is_tree_in (total (sizes_of vocabulary.now.parts.now)) (length vocabulary.now.props.now) (tree_of right.now) ≡ true }
+    ensures { OnOk result (texts tokens.new
+        ≡ texts tokens.old ++ until_tokens word.now (tokens_of (signature vocabulary.now) (tree_of left.now)) (tokens_of (signature vocabulary.now) (tree_of right.now))) }
+{
+    push(tokens, word)?;
+    push(tokens, b"[")?;
+    push_tree(left, vocabulary, tokens)?;
+    push(tokens, b"U")?;
+    push_tree(right, vocabulary, tokens)?;
+    push(tokens, b"]")
+}
+
 /// Appends the tokens of a tree.
 #[tactic(auto, using(crate::proofs::Printing::tree_steps))]
 #[cycle(printer)]
@@ -155,14 +195,11 @@ fn push_tree<'v>(
     match tree {
         Tree::Const(code) => push_element(vocabulary, *code, tokens),
         Tree::Atom(place) => push(tokens, prop_name(vocabulary, *place)),
-        Tree::Not(inner) => {
-            push(tokens, b"!")?;
-            push_operand(inner, vocabulary, is_joined(inner), tokens)
-        }
-        Tree::Ex(inner) => {
-            push(tokens, b"EX")?;
-            push_operand(inner, vocabulary, is_joined(inner), tokens)
-        }
+        Tree::Not(inner) => push_prefixed(b"!", inner, vocabulary, tokens),
+        Tree::Ex(inner) => push_prefixed(b"EX", inner, vocabulary, tokens),
+        Tree::Eg(inner) => push_prefixed(b"EG", inner, vocabulary, tokens),
+        Tree::Eu(left, right) => push_until(b"E", left, right, vocabulary, tokens),
+        Tree::Au(left, right) => push_until(b"A", left, right, vocabulary, tokens),
         Tree::And(left, right) => {
             push_operand(left, vocabulary, is_or(left), tokens)?;
             push(tokens, b"&")?;

@@ -5,7 +5,7 @@ ghost use Rattle.std.specs.List.{position};
 ghost use Rattle.std.specs.Option.{option_map};
 ghost use Rattle.std.specs.Str.{bytes_eq};
 ghost use Rattle.xc_base.specs.Lines.{texts};
-ghost use Rattle.xc_ctl.specs.Trees.{Const, Atom, Not, And, Or, Ex, both, element_named, resolved};
+ghost use Rattle.xc_ctl.specs.Trees.{Const, Atom, element_named, resolved};
 ghost use Rattle.xc_ctl.specs.FormulaReading.{written};
 ghost use Rattle.xc_ctl.specs.Resolving.{signature, tree_of};
 
@@ -13,6 +13,7 @@ use crate::elements::element;
 use crate::phrase::Phrase;
 use crate::tree::Tree;
 use crate::vocabulary::Vocabulary;
+use crate::written_out::{and, implies, or, prefixed, until};
 use std::alloc::Global;
 use xc_base::{Lexeme, Memory, find_name};
 
@@ -36,69 +37,6 @@ fn constant(vocabulary: &Vocabulary, values: &[Lexeme]) -> Option<Tree>
     }
 }
 
-fn not(alloc: Global, tree: Option<Tree>) -> Result<Option<Tree>, Memory>
-    ensures { IfOk result (λ t. option_map tree_of t ≡ option_map Not (option_map tree_of tree)) }
-{
-    match tree {
-        Some(tree) => Ok(Some(Tree::Not(Box::new(alloc, tree)?))),
-        None => Ok(None),
-    }
-}
-
-fn some_next(alloc: Global, tree: Option<Tree>) -> Result<Option<Tree>, Memory>
-    ensures { IfOk result (λ t. option_map tree_of t ≡ option_map Ex (option_map tree_of tree)) }
-{
-    match tree {
-        Some(tree) => Ok(Some(Tree::Ex(Box::new(alloc, tree)?))),
-        None => Ok(None),
-    }
-}
-
-#[tactic(auto, using(crate::proofs::WrittenOut::all_next_is))]
-fn all_next(alloc: Global, tree: Option<Tree>) -> Result<Option<Tree>, Memory>
-    ensures { IfOk result (λ t. option_map tree_of t ≡ option_map (λ f. Not (Ex (Not f))) (option_map tree_of tree)) }
-{
-    let inner = not(alloc, tree)?;
-    let next = some_next(alloc, inner)?;
-    not(alloc, next)
-}
-
-fn and(alloc: Global, left: Option<Tree>, right: Option<Tree>) -> Result<Option<Tree>, Memory>
-    ensures { IfOk result
-        (λ t. option_map tree_of t ≡ both And (option_map tree_of left) (option_map tree_of right)) }
-{
-    match (left, right) {
-        (Some(left), Some(right)) => Ok(Some(Tree::And(
-            Box::new(alloc, left)?,
-            Box::new(alloc, right)?,
-        ))),
-        _ => Ok(None),
-    }
-}
-
-fn or(alloc: Global, left: Option<Tree>, right: Option<Tree>) -> Result<Option<Tree>, Memory>
-    ensures { IfOk result
-        (λ t. option_map tree_of t ≡ both Or (option_map tree_of left) (option_map tree_of right)) }
-{
-    match (left, right) {
-        (Some(left), Some(right)) => Ok(Some(Tree::Or(
-            Box::new(alloc, left)?,
-            Box::new(alloc, right)?,
-        ))),
-        _ => Ok(None),
-    }
-}
-
-#[tactic(auto, using(crate::proofs::WrittenOut::implies_is))]
-fn implies(alloc: Global, left: Option<Tree>, right: Option<Tree>) -> Result<Option<Tree>, Memory>
-    ensures { IfOk result
-        (λ t. option_map tree_of t
-        ≡ both (λ f g. Or (Not f) g) (option_map tree_of left) (option_map tree_of right)) }
-{
-    let left = not(alloc, left)?;
-    or(alloc, left, right)
-}
-
 /// The formula written out, where its names are known.
 pub(crate) fn resolve(
     alloc: Global,
@@ -113,17 +51,14 @@ pub(crate) fn resolve(
         Phrase::False => Ok(Some(Tree::Const(vocabulary.bottom))),
         Phrase::Name(name) => Ok(atom(vocabulary, name)),
         Phrase::Braces(values) => Ok(constant(vocabulary, values.as_slice())),
-        Phrase::Not(inner) => {
+        Phrase::Prefixed(prefix, inner) => {
             let inner = resolve(alloc, inner, vocabulary)?;
-            not(alloc, inner)
+            prefixed(alloc, vocabulary.top, *prefix, inner)
         }
-        Phrase::SomeNext(inner) => {
-            let inner = resolve(alloc, inner, vocabulary)?;
-            some_next(alloc, inner)
-        }
-        Phrase::AllNext(inner) => {
-            let inner = resolve(alloc, inner, vocabulary)?;
-            all_next(alloc, inner)
+        Phrase::Until(paths, left, right) => {
+            let left = resolve(alloc, left, vocabulary)?;
+            let right = resolve(alloc, right, vocabulary)?;
+            until(alloc, *paths, left, right)
         }
         Phrase::And(left, right) => {
             let left = resolve(alloc, left, vocabulary)?;

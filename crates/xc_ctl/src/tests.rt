@@ -49,6 +49,9 @@ fn kind_told(alloc: Global, kind: Kind) -> Result<String, AllocError> {
         Kind::And(i, j) => format!(in alloc; "&{i},{j}"),
         Kind::Or(i, j) => format!(in alloc; "|{i},{j}"),
         Kind::Ex(i) => format!(in alloc; "X{i}"),
+        Kind::Eu(i, j) => format!(in alloc; "E{i},{j}"),
+        Kind::Au(i, j) => format!(in alloc; "A{i},{j}"),
+        Kind::Eg(i) => format!(in alloc; "G{i}"),
     }
 }
 
@@ -122,6 +125,15 @@ fn formulas_have_their_tables(rt: HostRuntime) -> Result<(), Fail> {
         // abbreviations are written out
         ("AX p", "p0 !0 X1 !2 ;"),
         ("AX AX p", "p0 !0 X1 !2 !3 X4 !5 ;"),
+        ("EF p", "c5 p0 E0,1 ;"),
+        ("AF p", "c5 p0 A0,1 ;"),
+        ("EG p & q", "p0 G0 p1 &1,2 ;"),
+        ("AG p", "c5 p0 !1 E0,2 !3 ;"),
+        ("AG EF p", "c5 c5 p0 E1,2 !3 E0,4 !5 ;"),
+        ("E[p U q]", "p0 p1 E0,1 ;"),
+        ("A[p U E[q U r]]", "p0 p1 p2 E1,2 A0,3 ;"),
+        ("E[p -> q U q | r]", "p0 !0 p1 |1,2 p1 p2 |4,5 E3,6 ;"),
+        ("p -> EG !q", "p0 !0 p1 !2 G3 |1,4 ;"),
         // constants, the last digit least
         ("true & false", "c5 c0 &0,1 ;"),
         ("{T,M}", "c4 ;"),
@@ -164,14 +176,17 @@ fn files_have_their_first_fault(rt: HostRuntime) -> Result<(), Fail> {
         ("{M,T}", "Unknown 1"),
         ("{T,M,T}", "Unknown 1"),
         ("p\np & s\n", "Unknown 2"),
-        ("EF p", "NoStatement 1"),
-        ("A[p U q]", "NoStatement 1"),
-        ("p\nE ) (", "NoStatement 2"),
-        ("s & AG s", "NoStatement 1"),
-        ("{T,M} & EG", "NoStatement 1"),
+        // two formulas in brackets, with `U` between them
+        ("E p", "NoStatement 1"),
+        ("E[p]", "NoStatement 1"),
+        ("E[p U q", "NoStatement 1"),
+        ("A[p U q)", "NoStatement 1"),
+        ("[p U q]", "NoStatement 1"),
+        ("EF[p U q]", "NoStatement 1"),
+        ("E[U q]", "NoStatement 1"),
+        ("E[p U q U r]", "NoStatement 1"),
+        ("E[p U s]", "Unknown 1"),
         ("{EF,T}", "Unknown 1"),
-        ("{ EF p", "NoStatement 1"),
-        ("p &\nEF p", "NoStatement 1"),
     ] {
         let got = answer(alloc, text.as_bytes(), true)?;
         assert_eq!(rt; got.as_str(), want, "{text}");
@@ -203,11 +218,15 @@ fn around(
 fn limits_are_kept(rt: HostRuntime) -> Result<(), Fail> {
     let alloc = rt.alloc();
     let more = b"&a_name_that_has_thirty_two_bytes";
-    let table: [(&[u8], &[u8], &[u8], u32, u32, &str); 13] = [
+    let table: [(&[u8], &[u8], &[u8], u32, u32, &str); 17] = [
         // 512 around each other
         (b"(", b"p", b")", 512, 512, "1 formulas, 1 nodes"),
         (b"(", b"p", b")", 513, 513, "NoStatement 1"),
+        (b"E[p U", b"p", b"]", 127, 127, "1 formulas, 255 nodes"),
+        (b"E[p U", b"p", b"]", 512, 512, "Nodes 1 1025"),
+        (b"E[p U", b"p", b"]", 513, 513, "NoStatement 1"),
         // 256 nodes
+        (b"AG ", b"p", b"", 64, 0, "Nodes 1 257"),
         (b"!", b"p", b"", 255, 0, "1 formulas, 256 nodes"),
         (b"!", b"p", b"", 256, 0, "Nodes 1 257"),
         (b"AX ", b"p", b"", 85, 0, "1 formulas, 256 nodes"),

@@ -8,4 +8,10 @@ pub(crate) enum Tree {
     Or(Box<Tree>, Box<Tree>),
     /// What holds at some next state.
     Ex(Box<Tree>),
+    /// The second holds on some path, and until then the first.
+    Eu(Box<Tree>, Box<Tree>),
+    /// The second holds on each path, and until then the first.
+    Au(Box<Tree>, Box<Tree>),
+    /// What holds all along some path.
+    Eg(Box<Tree>),
 }

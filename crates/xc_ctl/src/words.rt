@@ -2,21 +2,9 @@
 
 ghost use Rattle.std.specs.Prelude.{◌≡◌};
 ghost use Rattle.xc_base.specs.Names.{is_among};
-ghost use Rattle.xc_ctl.specs.Written.{fixpoint_words, reserved_words, is_prop_name};
+ghost use Rattle.xc_ctl.specs.Written.{reserved_words, is_prop_name};
 
 use xc_base::is_name_text;
-
-/// Whether the text is a word of a form that is not read yet.
-fn is_fixpoint_word(text: &[u8]) -> bool
-    ensures { result ≡ is_among fixpoint_words text.now }
-{
-    text == b"EF".as_slice()
-        || text == b"AF".as_slice()
-        || text == b"EG".as_slice()
-        || text == b"AG".as_slice()
-        || text == b"E".as_slice()
-        || text == b"A".as_slice()
-}
 
 fn is_reserved(text: &[u8]) -> bool
     ensures { result ≡ is_among reserved_words text.now }
@@ -25,8 +13,13 @@ fn is_reserved(text: &[u8]) -> bool
         || text == b"false".as_slice()
         || text == b"EX".as_slice()
         || text == b"AX".as_slice()
+        || text == b"EF".as_slice()
+        || text == b"AF".as_slice()
+        || text == b"EG".as_slice()
+        || text == b"AG".as_slice()
+        || text == b"E".as_slice()
+        || text == b"A".as_slice()
         || text == b"U".as_slice()
-        || is_fixpoint_word(text)
 }
 
 /// Whether a proposition may have the text as its name.

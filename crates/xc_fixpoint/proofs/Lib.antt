@@ -4,8 +4,10 @@ pub mod Chains
 pub mod Changes
 pub mod Settling
 pub mod Fixpoints
+pub mod Rounds
 pub mod SameSteps
 pub mod Lists
+pub mod ListRounds
 pub mod MonotoneSteps
 pub mod PairHeights
 pub mod ProductHeights

@@ -1,7 +1,7 @@
 -- A function is an extremal fixpoint exactly where the list of its values is that among lists.
-use Rattle.std.proofs.Common.{◌≡◌, ℕ, zero, suc, ◌+◌, ◌<◌, ◌≤◌, Bool, List, [], ◌∷◌, length, map, slice_index, refl, sym, ap, subst, ◌∙◌, arith}
+use Rattle.std.proofs.Common.{◌≡◌, ℕ, zero, suc, ◌+◌, ◌<◌, ◌≤◌, Bool, List, [], ◌∷◌, length, map, slice_index, refl, sym, ap, subst, ◌∙◌, arith, ◌++◌}
 use Rattle.std.specs.List.{range_with_len}
-use Rattle.std.proofs.lemmas.List.FromFn.{length-map-range_with_len, get_or-map-range_with_len, fill_by_all}
+use Rattle.std.proofs.lemmas.List.FromFn.{length-map-range_with_len, get_or-map-range_with_len, map-range_with_len_more, fill_by_all}
 use Rattle.xc_alg.specs.Operations.{Operations, IsAlgebra}
 use Rattle.xc_alg.specs.Bounds.{AreElements}
 use Rattle.xc_fixpoint.specs.Functions.{IsFunction, Agree, Before, AreBefore}
@@ -17,8 +17,16 @@ length-values n f = length-map-range_with_len f 0 n
 pub value_at : (n : ℕ) (f : ℕ → ℕ) → Agree n (slice_index (values n f)) f
 value_at n f s low = get_or-map-range_with_len f 0 n s s 0 low (omega arith)
 
+pub values_in_list : (n : ℕ) (f : ℕ → ℕ) (xs : List ℕ) → xs ≡ values n f → Agree n (slice_index xs) f
+values_in_list n f xs e s low = ap (λ (ys : List ℕ). slice_index ys s) e ∙ value_at n f s low
+
 pub values_of_list : (n : ℕ) (xs : List ℕ) → length xs ≡ n → values n (slice_index xs) ≡ xs
 values_of_list n xs sized = sym (fill_by_all (slice_index xs) xs n 0 sized (λ k low. refl))
+
+-- one value more
+pub values_pushed : (n : ℕ) (f : ℕ → ℕ) (row pushed : List ℕ) (x : ℕ) → row ≡ values n f → x ≡ f n → pushed ≡ row ++ x ∷ [] → pushed ≡ values (n + 1) f
+values_pushed n f row pushed x before here e =
+    e ∙ (ap (λ (xs : List ℕ). xs ++ x ∷ []) before ∙ (ap (λ (y : ℕ). values n f ++ y ∷ []) here ∙ sym (map-range_with_len_more f 0 n n (omega arith))))
 
 -- functions agree where their values are the same list
 pub values_of_agree : (n : ℕ) (f g : ℕ → ℕ) → Agree n f g → values n f ≡ values n g
@@ -26,6 +34,9 @@ values_of_agree n f g same = fill_by_all g (values n f) n 0 (length-values n f) 
 
 pub agree_of_values : (n : ℕ) (f g : ℕ → ℕ) → values n f ≡ values n g → Agree n f g
 agree_of_values n f g same s low = sym (value_at n f s low) ∙ (ap (λ (xs : List ℕ). slice_index xs s) same ∙ value_at n g s low)
+
+pub same_list : (n : ℕ) (xs ys : List ℕ) → length xs ≡ n → length ys ≡ n → Agree n (slice_index xs) (slice_index ys) → xs ≡ ys
+same_list n xs ys hx hy same = sym (values_of_list n xs hx) ∙ (values_of_agree n (slice_index xs) (slice_index ys) same ∙ values_of_list n ys hy)
 
 pub elements_from : (size a n : ℕ) (f : ℕ → ℕ) → ((s : ℕ) → a ≤ s → s < a + n → f s < size) → AreElements size (map f (range_with_len a n))
 elements_from size a zero f within = tt

@@ -1,5 +1,5 @@
 -- What a line carries, value after value, and which propositions a viewpoint tells, one after another.
-use Rattle.std.proofs.Common.{◌≡◌, ℕ, suc, ◌+◌, ◌-◌, ◌<◌, ◌≤◌, Bool, true, false, cond, ◌&&◌, nat_lt, List, [], ◌∷◌, ◌++◌, length, Option, Some, refl, sym, ◌∙◌, ap, subst, arith, cc}
+use Rattle.std.proofs.Common.{◌≡◌, ℕ, suc, ◌+◌, ◌-◌, ◌<◌, ◌≤◌, Bool, true, false, cond, ◌&&◌, nat_lt, List, [], ◌∷◌, ◌++◌, length, Option, Some, refl, sym, ◌∙◌, ap, subst, arith}
 use Rattle.std.proofs.lemmas.Bool.{and_parts, ltb-true}
 use Rattle.std.specs.List.{list_all, find, flat_map, range_with_len}
 use Rattle.xc_base.specs.Names.{is_among}
@@ -15,7 +15,7 @@ use Rattle.xc_merge.specs.declared.fault.MergeFault.{MergeFault}
 use Rattle.xc_merge.proofs.Steps.{first_in_front}
 
 -- the first of some numbers, and the others
-range_more : (k n : ℕ) → k < n → range_with_len k (n - k) ≡ k ∷ range_with_len (k + 1) (n - (k + 1))
+pub range_more : (k n : ℕ) → k < n → range_with_len k (n - k) ≡ k ∷ range_with_len (k + 1) (n - (k + 1))
 range_more k n h = let e : n - k ≡ suc (n - (k + 1)) = omega arith in rw e refl
 
 pub carries_more : (plan : MapValue) (d : Domain) (line : SendLine) (k : ℕ) → k < length (values_at plan.vars line.from) → carries_from plan d line k ≡ (is_among d.values (carried_word plan line k) && carries_from plan d line (k + 1))

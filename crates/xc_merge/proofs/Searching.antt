@@ -1,5 +1,5 @@
 -- Lists of faults, as they are defined and as the code comes to them.
-use Rattle.std.proofs.Common.{◌≡◌, ℕ, Bool, true, false, not, cond, List, [], ◌∷◌, ◌++◌, map, Option, Some, None, refl, sym, ◌∙◌, ap, append_assoc, cc}
+use Rattle.std.proofs.Common.{◌≡◌, ℕ, Bool, true, false, not, cond, ◌||◌, List, [], ◌∷◌, ◌++◌, map, Option, Some, None, refl, sym, ◌∙◌, ap, append_assoc}
 use Rattle.std.specs.List.{flat_map, filter, find}
 use Rattle.std.specs.Str.{bytes_eq}
 use Rattle.xc_base.specs.Names.{is_among}
@@ -52,19 +52,19 @@ pub flat_mapped : {X Y : Type 0} (f : Y → MergeFault) (h : X → List Y) (xs :
 flat_mapped f h [] = refl
 flat_mapped f h (x ∷ xs) = append_mapped f (h x) (flat_map h xs) ∙ ap (λ (faults : List MergeFault). map f (h x) ++ faults) (flat_mapped f h xs)
 
+append_one : (b : Bool) (x : List ℕ) (all front back : List (List ℕ)) → all ≡ front ++ back → cond (not b) (x ∷ all) all ≡ cond (not b) (x ∷ front) front ++ back
+append_one true x all front back e = e
+append_one false x all front back e = ap (λ (words : List (List ℕ)). x ∷ words) e
+
 append_missing : (names xs ys : List (List ℕ)) → missing names (xs ++ ys) ≡ missing names xs ++ missing names ys
 append_missing names [] ys = refl
-append_missing names (x ∷ xs) ys = append_one (is_among names x) x (append_missing names xs ys)
-  where
-  append_one : (b : Bool) (x : List ℕ) {all front back : List (List ℕ)} → all ≡ front ++ back → cond (not b) (x ∷ all) all ≡ cond (not b) (x ∷ front) front ++ back
-  append_one true x e = e
-  append_one false x e = ap (λ (words : List (List ℕ)). x ∷ words) e
+append_missing names (x ∷ xs) ys = append_one (is_among names x) x (missing names (xs ++ ys)) (missing names xs) (missing names ys) (append_missing names xs ys)
 
 pub missing_both : (f : List ℕ → MergeFault) (names xs ys : List (List ℕ)) → map f (missing names (xs ++ ys)) ≡ map f (missing names xs) ++ map f (missing names ys)
 missing_both f names xs ys = ap (map f) (append_missing names xs ys) ∙ append_mapped f (missing names xs) (missing names ys)
 
 -- a variable's name is among the names where the variable is found
-one_called : (name : List ℕ) (d e : Domain) (more : List Domain) (b : Bool) → cond b (Some d) (find (is_called name) more) ≡ Some e → (find (is_called name) more ≡ Some e → is_among (names_of more) name ≡ true) → cond b true (is_among (names_of more) name) ≡ true
+one_called : (name : List ℕ) (d e : Domain) (more : List Domain) (b : Bool) → cond b (Some d) (find (is_called name) more) ≡ Some e → (find (is_called name) more ≡ Some e → is_among (names_of more) name ≡ true) → (b || is_among (names_of more) name) ≡ true
 one_called name d e more true h k = refl
 one_called name d e more false h k = k h
 
@@ -72,7 +72,7 @@ pub found_among : (vars : List Domain) (name : List ℕ) (d : Domain) → find (
 found_among [] name d h = cc
 found_among (x ∷ vars) name d h = one_called name x d vars (bytes_eq name x.name) h (found_among vars name d)
 
-one_lacking : (name : List ℕ) (d : Domain) (more : List Domain) (b : Bool) → cond b (Some d) (find (is_called name) more) ≡ None → (find (is_called name) more ≡ None → is_among (names_of more) name ≡ false) → cond b true (is_among (names_of more) name) ≡ false
+one_lacking : (name : List ℕ) (d : Domain) (more : List Domain) (b : Bool) → cond b (Some d) (find (is_called name) more) ≡ None → (find (is_called name) more ≡ None → is_among (names_of more) name ≡ false) → (b || is_among (names_of more) name) ≡ false
 one_lacking name d more true h k = cc
 one_lacking name d more false h k = k h
 

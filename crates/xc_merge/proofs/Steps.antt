@@ -1,6 +1,7 @@
 -- One item more of a list that is searched for faults.
-use Rattle.std.proofs.Common.{◌≡◌, ℕ, ◌+◌, ◌<◌, List, [], ◌∷◌, ◌++◌, length, get_or, drop, drop-cons, add-one, refl, sym, ◌∙◌, ap, subst, Option, Some, None, cc}
+use Rattle.std.proofs.Common.{◌≡◌, ℕ, ◌+◌, ◌<◌, List, [], ◌∷◌, ◌++◌, length, get_or, drop, drop-cons, add-one, refl, sym, ◌∙◌, ap, subst, Option, Some, None, Result, Ok, Err}
 use Rattle.std.specs.List.{flat_map}
+use Rattle.std.specs.Result.{IsErrAnd}
 use Rattle.xc_expr.specs.declared.domain.Domain.{Domain}
 use Rattle.xc_view.specs.ViewFiles.{ViewValue}
 use Rattle.xc_view.specs.declared.lines.PropLine.{PropLine}
@@ -12,7 +13,7 @@ use Rattle.xc_sigmap.specs.declared.parts.Stutter.{Stutter}
 use Rattle.xc_sigmap.specs.declared.parts.Tell.{Tell}
 use Rattle.xc_merge.specs.Merges.{Viewpoint}
 use Rattle.xc_merge.specs.Faults.{first_of, IsFirstOf}
-use Rattle.xc_merge.specs.Finding.{value_fault, name_fault, prop_values, command_values, pair_names, sent_by, sent, told_by, told, stuttered_by, stuttered, unfed_by, unfed}
+use Rattle.xc_merge.specs.Finding.{Finds, value_fault, name_fault, prop_values, command_values, pair_names, sent_by, sent, told_by, told, stuttered_by, stuttered, unfed_by, unfed}
 use Rattle.xc_merge.specs.declared.fault.MergeFault.{MergeFault}
 use Rattle.xc_merge.specs.declared.fault.MergeFault.TheVariants.{UnknownValue, UnknownName, NotTotal, Elements, NoInitial, Initial, Memory}
 
@@ -29,6 +30,11 @@ first_in_front xs ys (Elements count) h = h
 first_in_front xs ys NoInitial h = h
 first_in_front xs ys (Initial count) h = h
 first_in_front xs ys Memory h = h
+
+-- an error that is passed on is the first of the faults where it was that
+pub err_is : {X : Type 0} (faults : List MergeFault) (fault : MergeFault) → IsFirstOf faults fault → (result : Result X MergeFault) → IsErrAnd result (λ other. other ≡ fault) → Finds faults result
+err_is faults fault h (Ok x) e = absurd e
+err_is faults fault h (Err other) e = let P : MergeFault → Type 0 = λ f. IsFirstOf faults f in subst P (sym e) h
 
 -- the faults of the items from a place on: those of that item, and those of the items behind it
 items_from : {X : Type 0} (f : X → List MergeFault) (xs : List X) (i : ℕ) (d : X) → i < length xs → flat_map f (drop i xs) ≡ f (get_or xs i d) ++ flat_map f (drop (i + 1) xs)

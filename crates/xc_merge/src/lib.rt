@@ -10,3 +10,6 @@ mod words;
 pub use fault::MergeFault;
 pub use feeding::{carried_word, line_for, line_of};
 pub use find::find_fault;
+
+#[cfg(test)]
+mod tests;

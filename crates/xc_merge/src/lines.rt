@@ -99,7 +99,7 @@ fn has_prop(lines: &[PropLine], name: &Word) -> bool
 }
 
 /// Looks for a proposition of a view.
-#[tactic(auto, using(std::proofs::lemmas::Grind::common_steps, crate::proofs::Told::named_found))]
+#[tactic(auto, using(std::proofs::lemmas::Grind::common_steps, crate::proofs::Told::prop_steps))]
 fn look_for_prop(
     alloc: Global,
     viewpoint: &Word,

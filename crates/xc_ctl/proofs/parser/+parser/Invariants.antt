@@ -7,10 +7,16 @@ use Rattle.xc_ctl.proofs.parser.+parser.Given as goal
 
 -- no slice is so long that a formula at a smaller depth would count as much
 abbrev pub decreases-under : goal.decreases-under
-decreases-under l = 36893488147419103232 * l.depth + 5 + length l.rest.now
+decreases-under l = 36893488147419103232 * l.depth + 7 + length l.rest.now
+
+abbrev pub decreases-in_brackets : goal.decreases-in_brackets
+decreases-in_brackets l = 36893488147419103232 * l.depth + 6 + length l.rest.now
+
+abbrev pub decreases-until : goal.decreases-until
+decreases-until l = 36893488147419103232 * l.depth + 5 + length l.tokens.now
 
 abbrev pub decreases-deeper : goal.decreases-deeper
-decreases-deeper l = 36893488147419103232 * l.depth + 6 + length l.tokens.now
+decreases-deeper l = 36893488147419103232 * l.depth + 8 + length l.tokens.now
 
 abbrev pub decreases-nested : goal.decreases-nested
 decreases-nested l = 36893488147419103232 * l.depth
