@@ -12,3 +12,4 @@ pub mod Serving
 pub mod Existence
 pub mod Facts
 pub mod Machined
+pub mod Telling

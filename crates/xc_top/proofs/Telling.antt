@@ -44,15 +44,15 @@ initial_below m states i s e low is =
 -- a table has the nodes of its formula, the states of the machine, and elements as values
 module _ (m : Merge) (nodes : List Kind) (t : RoundsTable) (is : IsTableFor (merged_frame m) nodes t) where
   pub node_there : (i : ℕ) → i < length nodes → i < t.nodes
-  node_there i low = omega (arith, is.nodes_are)
+  node_there i low = omega (arith, is.same_nodes)
 
   pub state_there : (s : ℕ) → s < states_of m.plan → s < t.states
   unfolding merged_frame
-  state_there s low = omega (arith, is.states_are)
+  state_there s low = omega (arith, is.same_states)
 
   pub value_there : (i s : ℕ) → i < length nodes → s < states_of m.plan → t.at i s < (product (parts_of m)).size
   unfolding merged_frame
-  value_there i s low here = is.in_range i s low here
+  value_there i s low here = (is.denoted.node i low).fixpoint.in_range s here
 
 -- the names of a part's elements are as many as its size
 names_at : (found : List Viewpoint) (part : ℕ) (names : List (List ℕ)) → AreNamed found → part < length found → names ≡ get_or (map (λ (p : Viewpoint). p.lattice.names) found) part names → length names ≡ slice_index (sizes (map (λ (p : Viewpoint). p.lattice.algebra) found)) part

@@ -14,7 +14,7 @@ use Rattle.xc_ctl.specs.Tables.{node_at}
 use Rattle.xc_ctl.specs.Frames.{Frame}
 use Rattle.xc_ctl.specs.Rounds.{RoundsTable, IsTableFor}
 use Rattle.xc_ctl.specs.declared.kind.Kind.{Kind}
-use Rattle.xc_ctl.specs.declared.kind.Kind.TheVariants.{Const, Atom, Not, And, Or, Ex}
+use Rattle.xc_ctl.specs.declared.kind.Kind.TheVariants.{Const, Atom, Not, And, Or, Ex, Eu, Au, Eg}
 use Rattle.xc_top.specs.Texts.{line}
 
 -- how many states may be evaluated
@@ -52,6 +52,9 @@ kind_word (Not i) = None
 kind_word (And i j) = None
 kind_word (Or i j) = None
 kind_word (Ex i) = None
+kind_word (Eu i j) = Some (codes "EU")
+kind_word (Au i j) = Some (codes "AU")
+kind_word (Eg i) = Some (codes "EG")
 
 -- for a node that is a fixpoint, after how many rounds it is reached
 abbrev pub rounds_text : ℕ → ℕ → Option (List ℕ) → List ℕ

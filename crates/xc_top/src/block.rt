@@ -130,6 +130,9 @@ fn word_of(kind: Kind) -> Option<&'static str>
         | Kind::And(_, _)
         | Kind::Or(_, _)
         | Kind::Ex(_) => None,
+        Kind::Eu(_, _) => Some("EU"),
+        Kind::Au(_, _) => Some("AU"),
+        Kind::Eg(_) => Some("EG"),
     }
 }
 

@@ -24,4 +24,6 @@ mod check_files;
 #[cfg(test)]
 mod check_tests;
 #[cfg(test)]
+mod product_tests;
+#[cfg(test)]
 mod tests;
