@@ -1,5 +1,5 @@
 -- How courses are gone on with: a load, a cut, and what comes behind them.
-use Rattle.std.proofs.Common.{◌≡◌, refl, ℕ, zero, suc, ◌+◌, ◌<◌, ◌≤◌, Bool, ◌||◌, List, [], ◌∷◌, ◌++◌, Option, Some, None, Result, Ok, Err, MatchOption, IsSome, IfSome, true, cond, length, take, sym, ap, subst, arith, inl, inr, ◌⊎◌, eqb, ltb}
+use Rattle.std.proofs.Common.{◌≡◌, refl, ℕ, zero, suc, ◌+◌, ◌<◌, ◌≤◌, Bool, ◌||◌, List, [], ◌∷◌, ◌++◌, Option, Some, None, Result, Ok, Err, MatchOption, IsSome, IfSome, true, cond, length, take, sym, ◌∙◌, ap, subst, arith, inl, inr, ◌⊎◌, eqb, ltb}
 use Rattle.std.specs.Option.{option_map}
 use Rattle.std.specs.String.{string_bytes}
 use Rattle.std.proofs.lemmas.Bool.{lt-ltb}
@@ -13,9 +13,10 @@ use Rattle.xc_base.specs.declared.fault.TextFault.{TextFault}
 use Rattle.xc_base.specs.declared.fault.TextFault.TheVariants.{LongFile}
 use Rattle.xc_base.specs.Shelves.{Told, Shelved, IsLoaded, held, HasRisen}
 use Rattle.xc_base.specs.declared.shelf.File.{File}
-use Rattle.xc_top.specs.Texts.{file_line}
-use Rattle.xc_top.specs.Outcomes.{Absent, Refusal, Event, Ends, Loading, always, file_limit, Cuts, Opens}
-use Rattle.xc_top.specs.Working.{Comes, IsLoadHalt, IsPrepared, CountsOn, IsCut, IsCutHalt, outcome_of}
+use Rattle.xc_top.specs.Headline.{FailedOnce, KeepsOrFails}
+use Rattle.xc_top.specs.Texts.{file_line, read_line}
+use Rattle.xc_top.specs.Outcomes.{Outcome, Absent, Refusal, Event, Ends, Loading, always, rest, file_limit, Cuts, Opens}
+use Rattle.xc_top.specs.Working.{AddsFailed, Comes, EndsWith, IsHalted, IsLoadHalt, IsPrepared, CountsOn, IsCut, IsCutHalt, IsRefusalHalt, Stops, outcome_of}
 use Rattle.xc_top.specs.declared.answer.Answer.{Answer}
 use Rattle.xc_top.specs.declared.halt.Halt.{Halt}
 use Rattle.xc_top.specs.declared.halt.Halt.TheVariants.{Words, Refused, ReadFault, WriteFault, Memory}
@@ -36,37 +37,48 @@ told_all : {P : Told → Type 0} (told : Option Told) → ((t : Told) → P t) �
 told_all None f = tt
 told_all (Some t) f = f t
 
--- what a course comes to in whatever way, it comes to
-pub comes_prepared : (P : Course) (shelf shelf_after : Shelved) (result : Result Answer Halt) → Comes P result → IsPrepared P shelf shelf_after result
-comes_prepared P shelf shelf_after (Ok answer) comes = told_all shelf.told (λ t. comes (always t.files))
-comes_prepared P shelf shelf_after (Err (Refused line)) comes = (record { moments = some_moments; refused = comes some_moments }, told_all shelf.told (λ t. comes (always t.files)))
-comes_prepared P shelf shelf_after (Err Memory) comes = tt
-comes_prepared P shelf shelf_after (Err Words) comes = comes
-comes_prepared P shelf shelf_after (Err (ReadFault line)) comes = absurd comes
-comes_prepared P shelf shelf_after (Err WriteFault) comes = comes
+-- an end whatever the loads find
+ends_always : (P : Course) (shelf : Shelved) (o : Outcome) → ((m : ℕ → List File) → P m (Ends o)) → EndsWith P shelf o
+ends_always P shelf o comes = (record { moments = some_moments; ended = comes some_moments }, told_all shelf.told (λ t. comes (always t.files)))
 
--- and where one course is another, so are their ends
+-- where one course is another, so are its ends, and the loads that it reaches
+ends_by : (P Q : Course) (shelf : Shelved) (o : Outcome) → ((m : ℕ → List File) (e : Event) → P m e → Q m e) → EndsWith P shelf o → EndsWith Q shelf o
+ends_by P Q shelf o f h = (record { moments = h.0.moments; ended = f h.0.moments (Ends o) h.0.ended }, told_map shelf.told (λ t. f (always t.files) (Ends o)) h.1)
+
+fails_by : (P Q : Course) (shelf shelf_after : Shelved) (S : List ℕ → Type 0) → ((m : ℕ → List File) (e : Event) → P m e → Q m e) → FailedOnce P shelf shelf_after S → FailedOnce Q shelf shelf_after S
+fails_by P Q shelf shelf_after S f h = record {
+  name = h.name;
+  moments = h.moments;
+  reached = f h.moments (Loading h.name) h.reached;
+  told = h.told;
+  failed = told_map shelf.told (λ t both. (f (always t.files) (Loading h.name) both.0, both.1)) h.failed;
+}
+
+keeps_by : (P Q : Course) (shelf shelf_after : Shelved) → ((m : ℕ → List File) (e : Event) → P m e → Q m e) → KeepsOrFails P shelf shelf_after → KeepsOrFails Q shelf shelf_after
+keeps_by P Q shelf shelf_after f (inl same) = inl same
+keeps_by P Q shelf shelf_after f (inr h) = inr (fails_by P Q shelf shelf_after (λ name. Unit {0}) f h)
+
+-- what a course comes to in whatever way, it comes to
+pub comes_prepared : (P : Course) (shelf shelf_after : Shelved) (result : Result Answer Halt) → shelf_after.told ≡ shelf.told → Comes P result → IsPrepared P shelf shelf_after result
+comes_prepared P shelf shelf_after (Ok answer) same comes = ends_always P shelf (outcome_of answer) comes
+comes_prepared P shelf shelf_after (Err (Refused line)) same comes = ends_always P shelf (Refusal (string_bytes line)) comes
+comes_prepared P shelf shelf_after (Err Memory) same comes = inl same
+comes_prepared P shelf shelf_after (Err Words) same comes = comes
+comes_prepared P shelf shelf_after (Err (ReadFault line)) same comes = absurd comes
+comes_prepared P shelf shelf_after (Err WriteFault) same comes = comes
+
+-- and where one course is another, so is what became of it
 pub prepared_by : (P Q : Course) (shelf shelf_after : Shelved) (result : Result Answer Halt) → ((m : ℕ → List File) (e : Event) → P m e → Q m e) → IsPrepared P shelf shelf_after result → IsPrepared Q shelf shelf_after result
-prepared_by P Q shelf shelf_after (Ok answer) f h = told_map shelf.told (λ t. f (always t.files) (Ends (outcome_of answer))) h
-prepared_by P Q shelf shelf_after (Err (Refused line)) f h =
-    (record { moments = h.0.moments; refused = f h.0.moments (Ends (Refusal (string_bytes line))) h.0.refused }, told_map shelf.told (λ t. f (always t.files) (Ends (Refusal (string_bytes line)))) h.1)
-prepared_by P Q shelf shelf_after (Err (ReadFault line)) f h = (
-  h.0,
-  record {
-    name = h.1.name;
-    moments = h.1.moments;
-    reached = f h.1.moments (Loading h.1.name) h.1.reached;
-    told = h.1.told;
-    failed = told_map shelf.told (λ t both. (f (always t.files) (Loading h.1.name) both.0, both.1)) h.1.failed;
-  },
-)
-prepared_by P Q shelf shelf_after (Err Memory) f h = tt
+prepared_by P Q shelf shelf_after (Ok answer) f h = ends_by P Q shelf (outcome_of answer) f h
+prepared_by P Q shelf shelf_after (Err (Refused line)) f h = ends_by P Q shelf (Refusal (string_bytes line)) f h
+prepared_by P Q shelf shelf_after (Err (ReadFault line)) f h = (h.0, fails_by P Q shelf shelf_after (λ name. string_bytes line ≡ read_line name) f h.1)
+prepared_by P Q shelf shelf_after (Err Memory) f h = keeps_by P Q shelf shelf_after f h
 prepared_by P Q shelf shelf_after (Err Words) f h = h
 prepared_by P Q shelf shelf_after (Err WriteFault) f h = h
 
 -- a cut
 module _ (name bytes : List ℕ) (next : List Row → Course) where
-  cut_on : (rows : List Row) → IsCut bytes rows → (m : ℕ → List File) (e : Event) → next rows m e → Cuts name next bytes m e
+  pub cut_on : (rows : List Row) → IsCut bytes rows → (m : ℕ → List File) (e : Event) → next rows m e → Cuts name next bytes m e
   cut_on rows cut m e h =
       subst (λ (fault : Option TextFault). MatchOption fault (next (text_rows bytes) m e) (λ f. e ≡ Ends (Refusal (file_line name)))) (sym cut.sound)
       (subst (λ (rs : List Row). next rs m e) cut.same h)
@@ -81,9 +93,6 @@ module _ (name bytes : List ℕ) (next : List Row → Course) where
   cut_stops Words stopped = stopped
   cut_stops (ReadFault line) stopped = stopped
   cut_stops WriteFault stopped = stopped
-
-  pub cut_halted : (shelf shelf_after : Shelved) (halt : Halt) → IsCutHalt name bytes halt → IsPrepared (Cuts name next bytes) shelf shelf_after (Err halt)
-  cut_halted shelf shelf_after halt stopped = comes_prepared (Cuts name next bytes) shelf shelf_after (Err halt) (cut_stops halt stopped)
 
   pub cut_goes_on : (rows : List Row) (shelf shelf_after : Shelved) (result : Result Answer Halt) → IsCut bytes rows → IsPrepared (next rows) shelf shelf_after result → IsPrepared (Cuts name next bytes) shelf shelf_after result
   cut_goes_on rows shelf shelf_after result cut h = prepared_by (next rows) (Cuts name next bytes) shelf shelf_after result (cut_on rows cut) h
@@ -102,6 +111,37 @@ too_long bytes h = ap (λ b. cond b (Some LongFile) (first_fault_from 1 (lines_o
 
 order_of : (a b : ℕ) → (a < b) ⊎ (b ≤ a)
 order_of a b = elim (leb_tells b a) [ inl h ↦ inr h.1 | inr h ↦ inl h.1 ]
+
+risen_on : (a b c : ℕ) → a ≤ b → HasRisen b c → HasRisen a c
+risen_on a b c h r = risen_by (ltb b c) (eqb c 18446744073709551615) refl refl r where
+  risen_by : (p q : Bool) → ltb b c ≡ p → eqb c 18446744073709551615 ≡ q → (p || q) ≡ true → HasRisen a c
+  risen_by p q e f g = grind (arith)
+
+-- what came of a shelf came of an earlier one that tells the same
+module _ (P : Course) (before shelf shelf_after : Shelved) (same : shelf.told ≡ before.told) where
+  ends_before : (o : Outcome) → EndsWith P shelf o → EndsWith P before o
+  ends_before o h = (h.0, subst (λ (told : Option Told). IfSome told (λ t. P (always t.files) (Ends o))) same h.1)
+
+  fails_before : (S : List ℕ → Type 0) → FailedOnce P shelf shelf_after S → FailedOnce P before shelf_after S
+  fails_before S h = record {
+    name = h.name;
+    moments = h.moments;
+    reached = h.reached;
+    told = h.told;
+    failed = subst (λ (told : Option Told). IfSome told (λ t. P (always t.files) (Loading h.name) × (shelf_after.told ≡ Some (record t { failed = t.failed ++ h.name ∷ [] })))) same h.failed;
+  }
+
+  keeps_before : KeepsOrFails P shelf shelf_after → KeepsOrFails P before shelf_after
+  keeps_before (inl stays) = inl (stays ∙ same)
+  keeps_before (inr h) = inr (fails_before (λ n. Unit {0}) h)
+
+  pub from_before : (result : Result Answer Halt) → before.faults ≤ shelf.faults → IsPrepared P shelf shelf_after result → IsPrepared P before shelf_after result
+  from_before (Ok answer) counts h = ends_before (outcome_of answer) h
+  from_before (Err (Refused line)) counts h = ends_before (Refusal (string_bytes line)) h
+  from_before (Err (ReadFault line)) counts h = (risen_on before.faults shelf.faults shelf_after.faults counts h.0, fails_before (λ n. string_bytes line ≡ read_line n) h.1)
+  from_before (Err Memory) counts h = keeps_before h
+  from_before (Err Words) counts h = h
+  from_before (Err WriteFault) counts h = h
 
 -- a load
 module _ (name : List ℕ) (next : List Row → Course) where
@@ -141,69 +181,81 @@ module _ (name : List ℕ) (next : List Row → Course) where
   told_step None bytes loaded f h = tt
   told_step (Some t) bytes loaded f h = f t loaded h
 
-  risen_on : (a b c : ℕ) → a ≤ b → HasRisen b c → HasRisen a c
-  risen_on a b c h r = risen_by (ltb b c) (eqb c 18446744073709551615) refl refl r where
-    risen_by : (p q : Bool) → ltb b c ≡ p → eqb c 18446744073709551615 ≡ q → (p || q) ≡ true → HasRisen a c
-    risen_by p q e f g = grind (arith)
+  -- what came of the bytes comes of the load
+  ends_on : (bytes : List ℕ) (shelf : Shelved) (o : Outcome) → IsLoaded shelf.told name file_limit bytes → EndsWith (Cuts name next bytes) shelf o → EndsWith (Opens name next) shelf o
+  ends_on bytes shelf o loaded h = (
+    record { moments = onto (one_file bytes) h.0.moments; ended = found_on bytes h.0.moments (Ends o) h.0.ended },
+    told_step shelf.told bytes loaded (λ t l p. told_on t bytes (Ends o) l p) h.1,
+  )
+
+  fails_on : (bytes : List ℕ) (shelf shelf_after : Shelved) (S : List ℕ → Type 0) → IsLoaded shelf.told name file_limit bytes → FailedOnce (Cuts name next bytes) shelf shelf_after S → FailedOnce (Opens name next) shelf shelf_after S
+  fails_on bytes shelf shelf_after S loaded h = record {
+    name = h.name;
+    moments = onto (one_file bytes) h.moments;
+    reached = found_on bytes h.moments (Loading h.name) h.reached;
+    told = h.told;
+    failed = told_step shelf.told bytes loaded (λ t l both. (told_on t bytes (Loading h.name) l both.0, both.1)) h.failed;
+  }
+
+  keeps_on : (bytes : List ℕ) (shelf shelf_after : Shelved) → IsLoaded shelf.told name file_limit bytes → KeepsOrFails (Cuts name next bytes) shelf shelf_after → KeepsOrFails (Opens name next) shelf shelf_after
+  keeps_on bytes shelf shelf_after loaded (inl same) = inl same
+  keeps_on bytes shelf shelf_after loaded (inr h) = inr (fails_on bytes shelf shelf_after (λ n. Unit {0}) loaded h)
 
   on_shelf : (bytes : List ℕ) (shelf shelf_after : Shelved) (result : Result Answer Halt) → IsLoaded shelf.told name file_limit bytes → IsPrepared (Cuts name next bytes) shelf shelf_after result → IsPrepared (Opens name next) shelf shelf_after result
-  on_shelf bytes shelf shelf_after (Ok answer) loaded h = told_step shelf.told bytes loaded (λ t l p. told_on t bytes (Ends (outcome_of answer)) l p) h
-  on_shelf bytes shelf shelf_after (Err (Refused line)) loaded h = (
-    record { moments = onto (one_file bytes) h.0.moments; refused = found_on bytes h.0.moments (Ends (Refusal (string_bytes line))) h.0.refused },
-    told_step shelf.told bytes loaded (λ t l p. told_on t bytes (Ends (Refusal (string_bytes line))) l p) h.1,
-  )
-  on_shelf bytes shelf shelf_after (Err (ReadFault line)) loaded h = (
-    h.0,
-    record {
-      name = h.1.name;
-      moments = onto (one_file bytes) h.1.moments;
-      reached = found_on bytes h.1.moments (Loading h.1.name) h.1.reached;
-      told = h.1.told;
-      failed = told_step shelf.told bytes loaded (λ t l both. (told_on t bytes (Loading h.1.name) l both.0, both.1)) h.1.failed;
-    },
-  )
-  on_shelf bytes shelf shelf_after (Err Memory) loaded h = tt
+  on_shelf bytes shelf shelf_after (Ok answer) loaded h = ends_on bytes shelf (outcome_of answer) loaded h
+  on_shelf bytes shelf shelf_after (Err (Refused line)) loaded h = ends_on bytes shelf (Refusal (string_bytes line)) loaded h
+  on_shelf bytes shelf shelf_after (Err (ReadFault line)) loaded h = (h.0, fails_on bytes shelf shelf_after (λ n. string_bytes line ≡ read_line n) loaded h.1)
+  on_shelf bytes shelf shelf_after (Err Memory) loaded h = keeps_on bytes shelf shelf_after loaded h
   on_shelf bytes shelf shelf_after (Err Words) loaded h = h
   on_shelf bytes shelf shelf_after (Err WriteFault) loaded h = h
-
-  -- what came behind a load came of the shelf before it
-  from_before : (P : Course) (before shelf shelf_after : Shelved) (result : Result Answer Halt) → shelf.told ≡ before.told → before.faults ≤ shelf.faults → IsPrepared P shelf shelf_after result → IsPrepared P before shelf_after result
-  from_before P before shelf shelf_after (Ok answer) same counts h = subst (λ (told : Option Told). IfSome told (λ t. P (always t.files) (Ends (outcome_of answer)))) same h
-  from_before P before shelf shelf_after (Err (Refused line)) same counts h =
-      (h.0, subst (λ (told : Option Told). IfSome told (λ t. P (always t.files) (Ends (Refusal (string_bytes line))))) same h.1)
-  from_before P before shelf shelf_after (Err (ReadFault line)) same counts h = (
-    risen_on before.faults shelf.faults shelf_after.faults counts h.0,
-    record {
-      name = h.1.name;
-      moments = h.1.moments;
-      reached = h.1.reached;
-      told = h.1.told;
-      failed = subst (λ (told : Option Told). IfSome told (λ t. P (always t.files) (Loading h.1.name) × (shelf_after.told ≡ Some (record t { failed = t.failed ++ h.1.name ∷ [] })))) same h.1.failed;
-    },
-  )
-  from_before P before shelf shelf_after (Err Memory) same counts h = tt
-  from_before P before shelf shelf_after (Err Words) same counts h = h
-  from_before P before shelf shelf_after (Err WriteFault) same counts h = h
 
   -- a load that gave bytes, and work that goes on with the shelf
   pub load_goes_on : (bytes : List ℕ) (before shelf shelf_after : Shelved) (result : Result Answer Halt) → IsLoaded before.told name file_limit bytes → shelf.told ≡ before.told → CountsOn before shelf → IsPrepared (Cuts name next bytes) shelf shelf_after result → IsPrepared (Opens name next) before shelf_after result
   load_goes_on bytes before shelf shelf_after result loaded same counts h =
-      on_shelf bytes before shelf_after result loaded (from_before (Cuts name next bytes) before shelf shelf_after result same counts h)
+      on_shelf bytes before shelf_after result loaded (from_before (Cuts name next bytes) before shelf shelf_after same result counts h)
 
   -- a load that gave bytes, and work that loads no more
-  pub load_comes_to : (bytes : List ℕ) (before shelf : Shelved) (result : Result Answer Halt) → IsLoaded before.told name file_limit bytes → Comes (Cuts name next bytes) result → IsPrepared (Opens name next) before shelf result
-  load_comes_to bytes before shelf result loaded h = on_shelf bytes before shelf result loaded (comes_prepared (Cuts name next bytes) before shelf result h)
+  pub load_comes_to : (bytes : List ℕ) (before shelf : Shelved) (result : Result Answer Halt) → IsLoaded before.told name file_limit bytes → shelf.told ≡ before.told → Comes (Cuts name next bytes) result → IsPrepared (Opens name next) before shelf result
+  load_comes_to bytes before shelf result loaded same h = on_shelf bytes before shelf result loaded (comes_prepared (Cuts name next bytes) before shelf result same h)
 
   one_more : (told told_after : Option Told) → told_after ≡ option_map (λ (t : Told). record t { failed = t.failed ++ name ∷ [] }) told
       → IfSome told (λ t. Opens name next (always t.files) (Loading name) × (told_after ≡ Some (record t { failed = t.failed ++ name ∷ [] })))
   one_more None told_after e = tt
   one_more (Some told) told_after e = (inl refl, e)
 
+  failed_first : {S : List ℕ → Type 0} (shelf shelf_after : Shelved) → S name → AddsFailed name shelf shelf_after → FailedOnce (Opens name next) shelf shelf_after S
+  failed_first shelf shelf_after holds told = record { name = name; moments = some_moments; reached = inl refl; told = holds; failed = one_more shelf.told shelf_after.told told }
+
+  memory_first : (shelf shelf_after : Shelved) → (shelf_after.told ≡ shelf.told) ⊎ AddsFailed name shelf shelf_after → KeepsOrFails (Opens name next) shelf shelf_after
+  memory_first shelf shelf_after (inl same) = inl same
+  memory_first shelf shelf_after (inr told) = inr (failed_first shelf shelf_after tt told)
+
   -- a load that gave none
-  pub load_halted : (shelf shelf_after : Shelved) (halt : Halt) → IsLoadHalt name shelf shelf_after halt → IsPrepared (Opens name next) shelf shelf_after (Err halt)
-  load_halted shelf shelf_after (ReadFault line) failed =
-      (failed.counted, record { name = name; moments = some_moments; reached = inl refl; told = failed.named; failed = one_more shelf.told shelf_after.told failed.told })
-  load_halted shelf shelf_after Memory failed = tt
+  pub load_halted : (shelf shelf_after : Shelved) (halt : Halt) → IsLoadHalt name shelf shelf_after halt → IsHalted (Opens name next) shelf shelf_after halt
+  load_halted shelf shelf_after (ReadFault line) failed = (failed.counted, failed_first shelf shelf_after failed.named failed.told)
+  load_halted shelf shelf_after Memory failed = memory_first shelf shelf_after failed
   load_halted shelf shelf_after Words failed = failed
   load_halted shelf shelf_after (Refused line) failed = absurd failed
   load_halted shelf shelf_after WriteFault failed = failed
+
+-- where one course behind a load is another, so is the whole
+pub cuts_by : (name : List ℕ) (next more : List Row → Course) → ((rows : List Row) (m : ℕ → List File) (e : Event) → next rows m e → more rows m e) → (bytes : List ℕ) (m : ℕ → List File) (e : Event) → Cuts name next bytes m e → Cuts name more bytes m e
+cuts_by name next more f bytes m e h = by_fault (text_fault file_limit bytes) h where
+  by_fault : (fault : Option TextFault) → MatchOption fault (next (text_rows bytes) m e) (λ f. e ≡ Ends (Refusal (file_line name))) → MatchOption fault (more (text_rows bytes) m e) (λ f. e ≡ Ends (Refusal (file_line name)))
+  by_fault None h = f (text_rows bytes) m e h
+  by_fault (Some fault) h = h
+
+pub opens_by : (name : List ℕ) (next more : List Row → Course) → ((rows : List Row) (m : ℕ → List File) (e : Event) → next rows m e → more rows m e) → (m : ℕ → List File) (e : Event) → Opens name next m e → Opens name more m e
+opens_by name next more f m e (inl reached) = inl reached
+opens_by name next more f m e (inr h) = inr (by_found (held (m 0) name) h) where
+  by_found : (found : Option (List ℕ)) → MatchOption found (e ≡ Ends (Absent name)) (λ bytes. Cuts name next bytes (rest m) e) → MatchOption found (e ≡ Ends (Absent name)) (λ bytes. Cuts name more bytes (rest m) e)
+  by_found None h = h
+  by_found (Some bytes) h = cuts_by name next more f bytes (rest m) e h
+
+-- a refusal is an end of the course
+pub refused_comes : (P : Course) (Q : List ℕ → Type 0) (halt : Halt) → ((line : List ℕ) → Q line → (m : ℕ → List File) → P m (Ends (Refusal line))) → IsRefusalHalt Q halt → Stops P halt
+refused_comes P Q (Refused line) f h = f (string_bytes line) h
+refused_comes P Q Memory f h = tt
+refused_comes P Q Words f h = h
+refused_comes P Q (ReadFault line) f h = h
+refused_comes P Q WriteFault f h = h

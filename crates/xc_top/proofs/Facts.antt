@@ -4,13 +4,20 @@ use Rattle.std.proofs.Common.{◌≡◌, ℕ, Bool, true, false, List, [], ◌�
 use Rattle.xc_theory.specs.Bounds.{first_meet, first_join}
 use Rattle.xc_theory.proofs.Facts.{two, chain}
 use Rattle.xc_expr.specs.Tests as tests
-use Rattle.xc_expr.specs.declared.assign.Assign.TheVariants as assigns
 use Rattle.xc_lattice.specs.LatticeFiles.{LatticeValue}
 use Rattle.xc_lattice.specs.declared.law.Law.TheVariants.{Distributive, Antisymmetry}
 use Rattle.xc_view.specs.ViewFiles.{ViewValue}
+use Rattle.xc_sigmap.specs.MapFiles.{MapValue}
+use Rattle.xc_merge.specs.Merges.{Merge, Viewpoint}
+use Rattle.xc_merge.specs.MergedFrames.{initials_of}
+use Rattle.xc_merge.specs.declared.fault.MergeFault.TheVariants.{UnknownValue, UnknownName, NotTotal, Elements, NoInitial, Initial}
+use Rattle.xc_alg.specs.Products.{product}
+use Rattle.xc_ctl.specs.Rounds.{RoundsTable}
+use Rattle.xc_ctl.specs.declared.kind.Kind.TheVariants.{Atom, Ex}
 use Rattle.xc_top.specs.Requests.{request_of, LatticeOf, CheckOf}
-use Rattle.xc_top.specs.Texts.{lattice_text, broken_text, words_line, file_line, broken_line, value_line, not_yet_line, states_line, read_line, write_line, memory_line}
-use Rattle.xc_top.specs.Checks.{states_of, unknown_value, prop_names, frame_of, signature_of, initials_of, view_text, value_text, formula_text}
+use Rattle.xc_top.specs.Texts.{lattice_text, broken_text, words_line, file_line, broken_line, merge_line, states_line, read_line, write_line, memory_line}
+use Rattle.xc_top.specs.Outcomes.{files_of}
+use Rattle.xc_top.specs.Checks.{signature_of, map_text, value_text, block_text, rounds_text}
 
 -- the requests, and words that are none
 pub requests : (request_of (codes "lattice" ∷ codes "a" ∷ []) ≡ Some (LatticeOf (codes "a"))) × (request_of (codes "check" ∷ codes "a" ∷ codes "b" ∷ []) ≡ Some (CheckOf (codes "a") (codes "b")))
@@ -34,36 +41,47 @@ lattice_texts = (refl, refl, refl, refl)
 
 -- the lines for err
 pub err_lines : (words_line ≡ lines (codes "refused words")) × (file_line (codes "e.lat") ≡ lines (codes "refused file e.lat")) × (broken_line (codes "m3.lat") Distributive (codes "a" ∷ codes "b" ∷ []) ≡ lines (codes "refused broken m3.lat distributive a b"))
-    × (value_line (codes "bob") (codes "X") ≡ lines (codes "refused value bob X")) × (not_yet_line (codes "ax.ctl") 3 ≡ lines (codes "refused notyet ax.ctl " ++ decimal 3)) × (states_line 8192 ≡ lines (codes "refused states " ++ decimal 8192))
+    × (states_line 8192 ≡ lines (codes "refused states " ++ decimal 8192))
     × (read_line (codes "two.lat") ≡ lines (codes "fault read two.lat")) × (write_line ≡ lines (codes "fault write")) × (memory_line ≡ lines (codes "fault memory"))
-err_lines = (refl, refl, refl, refl, refl, refl, refl, refl, refl)
+err_lines = (refl, refl, refl, refl, refl, refl, refl)
 
--- Bob: from 0 to 1 with M, from 1 to 0 with T, and p where x is 1
-abbrev bob : ViewValue
-bob =
+-- the lines for viewpoints that do not merge
+pub merge_lines : (merge_line (UnknownValue (codes "bob") (codes "X")) ≡ lines (codes "refused value bob X")) × (merge_line (UnknownName (codes "bob") (codes "y")) ≡ lines (codes "refused name bob y")) × (merge_line (NotTotal (codes "bob") (codes "x")) ≡ lines (codes "refused total bob x"))
+    × (merge_line (Elements 8192) ≡ lines (codes "refused product " ++ decimal 8192)) × (merge_line NoInitial ≡ lines (codes "refused noinitial")) × (merge_line (Initial 8192) ≡ lines (codes "refused initial " ++ decimal 8192))
+merge_lines = (refl, refl, refl, refl, refl, refl)
+
+-- a view of one variable, and a map of two viewpoints that look at it alike, over two elements and over three
+abbrev seen : ViewValue
+seen = record { name = codes "seen"; lattice = codes "x.lat"; vars = record { name = codes "x"; values = codes "0" ∷ codes "1" ∷ [] } ∷ []; init = tests.Is 0 0; props = []; commands = [] }
+
+abbrev pair : Merge
+pair =
     record {
-      name = codes "bob";
-      lattice = codes "chain.lat";
-      vars = record { name = codes "x"; values = codes "0" ∷ codes "1" ∷ [] } ∷ [];
-      init = tests.Is 0 0;
-      props = record { name = codes "p"; value = codes "T"; guard = tests.Is 0 1 } ∷ record { name = codes "q"; value = codes "M"; guard = tests.True } ∷ record { name = codes "p"; value = codes "M"; guard = tests.False } ∷ [];
-      commands = record { name = codes "go"; value = codes "M"; guard = tests.Is 0 0; action = assigns.Value 0 1 ∷ [] } ∷ record { name = codes "back"; value = codes "T"; guard = tests.Is 0 1; action = assigns.Value 0 0 ∷ [] } ∷ [];
+      plan = record {
+        name = codes "pair";
+        uses = record { name = codes "ann"; file = codes "a.view" } ∷ record { name = codes "ben"; file = codes "b.view" } ∷ [];
+        vars = record { name = codes "x"; values = codes "0" ∷ codes "1" ∷ [] } ∷ [];
+        props = codes "p" ∷ [];
+        sends = record { viewpoint = 0; variable = codes "x"; from = 0; pairs = [] } ∷ record { viewpoint = 1; variable = codes "x"; from = 0; pairs = [] } ∷ [];
+        tells = [];
+        stutters = [];
+      };
+      viewpoints = record { view = seen; lattice = of_two } ∷ record { view = seen; lattice = of_chain } ∷ [];
     }
 
--- its states, its initial states, its propositions in their first order, and its first value that is no element
-pub of_bob : (states_of bob ≡ 2) × (initials_of bob ≡ 0 ∷ []) × (prop_names bob ≡ codes "p" ∷ codes "q" ∷ []) × (unknown_value bob of_chain ≡ None) × (unknown_value bob of_two ≡ Some (codes "M"))
-of_bob = (refl, refl, refl, refl, refl)
+-- a table of two nodes, with the value 4 everywhere, which is T,M
+abbrev told : RoundsTable
+told = record { states = 2; nodes = 2; at = λ i s. 4; rounds = λ i. 0; round_at = λ i k s. 4 }
 
--- its frame: transitions and propositions by their elements
-pub frame_of_bob : ((frame_of bob of_chain).relation 0 1 ≡ 1) × ((frame_of bob of_chain).relation 1 0 ≡ 2) × ((frame_of bob of_chain).relation 1 1 ≡ 0) × ((frame_of bob of_chain).prop 0 1 ≡ 2) × ((frame_of bob of_chain).prop 1 0 ≡ 1) × ((frame_of bob of_chain).props ≡ 2)
-unfolding first_join
-frame_of_bob = (refl, refl, refl, refl, refl, refl)
+-- the files of its viewpoints, its signature and the texts of a check of it
+pub files_of_pair : files_of pair.plan ≡ codes "a.view" ∷ codes "b.view" ∷ []
+files_of_pair = refl
 
-pub top_and_bottom : ((signature_of bob of_chain).top ≡ 2) × ((signature_of bob of_chain).bottom ≡ 0)
-unfolding first_meet first_join
-top_and_bottom = (refl, refl)
+pub signature_of_pair : ((signature_of pair).top ≡ 5) × ((signature_of pair).bottom ≡ 0) × ((signature_of pair).props ≡ codes "p" ∷ [])
+unfolding first_meet first_join product
+signature_of_pair = (refl, refl, refl)
 
--- the lines of a check of it
-pub check_lines : (view_text bob of_chain 2 ≡ lines (codes "view bob states " ++ decimal 2 ++ codes " elements " ++ decimal 3 ++ codes " height " ++ decimal 2)) × (value_text bob of_chain (λ s. 1) 0 ≡ lines (codes "value " ++ decimal 0 ++ codes " x=0" ++ 32 ∷ codes "M"))
-    × (formula_text bob of_chain 1 (λ s. 1) ≡ lines (codes "formula " ++ decimal 1) ++ (lines (codes "value " ++ decimal 0 ++ codes " x=0" ++ 32 ∷ codes "M") ++ []))
-check_lines = (refl, refl, refl)
+pub check_lines : (map_text pair 3 ≡ lines (codes "map pair states " ++ decimal 2 ++ codes " elements " ++ decimal 6 ++ codes " height " ++ decimal 3 ++ codes " initial " ++ decimal 1)) × (value_text pair (λ s. 4) 0 ≡ lines (codes "value " ++ decimal 0 ++ codes " x=0 T,M"))
+    × (block_text pair 1 (Atom 0 ∷ Ex 0 ∷ []) told ≡ lines (codes "formula " ++ decimal 1) ++ lines (codes "value " ++ decimal 0 ++ codes " x=0 T,M")) × (rounds_text 2 3 (Some (codes "EU")) ≡ lines (codes "rounds " ++ decimal 2 ++ codes " EU " ++ decimal 3))
+unfolding initials_of product
+check_lines = (refl, refl, refl, refl)

@@ -1,202 +1,174 @@
--- The rows that are taken of a view are those of its frame.
-use Rattle.std.proofs.Common.{◌≡◌, ℕ, zero, suc, ◌<◌, ◌≤◌, Bool, true, List, [], ◌∷◌, ◌++◌, length, map, get_or, slice_index, None, refl, sym, ◌∙◌, ap, subst, arith}
-use Rattle.std.specs.List.{list_all, range_with_len, filter, slice_index_or}
-use Rattle.std.proofs.lemmas.Bool.{and_parts}
-use Rattle.std.proofs.lemmas.List.{get_or-map, length-map}
-use Rattle.std.proofs.lemmas.List.FromFn.{get_or-map-range_with_len, length-map-range_with_len}
-use Rattle.xc_theory.proofs.Codes.{digits_are_in_range}
+-- What is merged without a fault is a frame, and formulas over it can be read.
+use Rattle.std.proofs.Common.{◌≡◌, ℕ, zero, suc, ◌+◌, ◌*◌, ◌<◌, ◌≤◌, Bool, true, false, not, ◌&&◌, ◌==◌, nat_lt, nat_le, cond, List, [], ◌∷◌, ◌++◌, length, map, Option, Some, None, refl, sym, ◌∙◌, ap, subst, append-nil, append_assoc, arith}
+use Rattle.std.specs.List.{list_all, range_with_len, slice_index_or}
+use Rattle.std.proofs.lemmas.List.{length-map}
+use Rattle.std.proofs.lemmas.Nat.{mul-le}
+use Rattle.std.proofs.lemmas.Bool.{and_from, and_parts, le-leb, leb-true, lt-ltb, ltb-false, ne_eqb}
 use Rattle.xc_theory.specs.Lattices.{LatticeData, size}
-use Rattle.xc_alg.specs.Products.{product}
-use Rattle.xc_alg.specs.Bounds.{joined, AreElements}
-use Rattle.xc_alg.specs.Tables.{entry}
-use Rattle.xc_alg.proofs.Tables.{product_size}
-use Rattle.xc_base.specs.Names.{is_among, place_of, name_at}
-use Rattle.xc_expr.specs.Variables.{sizes_of}
-use Rattle.xc_expr.specs.declared.domain.Domain.{Domain}
+use Rattle.xc_theory.specs.Codes.{total, code_of, AreDigits}
+use Rattle.xc_theory.proofs.Codes.{codes_are_in_range}
+use Rattle.xc_theory.proofs.Bounds.{join_of_lt}
+use Rattle.xc_alg.specs.Operations.{Operations, IsAlgebra}
+use Rattle.xc_alg.specs.Products.{product, sizes, AreLawful}
+use Rattle.xc_alg.proofs.Products.{product_laws}
+use Rattle.xc_base.specs.Formats.{Row, IsAccepted, AreStatements}
+use Rattle.xc_base.specs.Formats.AreStatements.{none, next}
+use Rattle.xc_base.specs.Names.{has_twice, place_of}
 use Rattle.xc_lattice.specs.LatticeFiles.{LatticeValue}
-use Rattle.xc_view.specs.ViewFiles.{ViewValue, PropValue, CommandValue}
-use Rattle.xc_view.specs.Parts.{prop_value, command_value}
-use Rattle.xc_view.specs.Meaning.{row_at, leads, step_words, tells, prop_words}
-use Rattle.xc_view.specs.declared.lines.PropLine.{PropLine}
-use Rattle.xc_view.specs.declared.lines.Command.{Command}
-use Rattle.xc_top.specs.Checks.{states_of, value_words, unknown_value, prop_names, join_named, frame_of, AreDenoted}
-use Rattle.xc_top.specs.Evaluating.{IsRow, AreRows, frame_in}
-use Rattle.xc_top.specs.Framing.{IsFit, AreStates, command_code, line_code, leads_to, tells_of, picked, step_code, prop_code, AreSteps, AreProps}
-use Rattle.xc_ctl.specs.Tables.{is_table_in}
-use Rattle.xc_ctl.specs.declared.kind.Kind.{Kind}
-use Rattle.xc_top.proofs.Carrying.{frame_by, all_denoted_same}
-use Rattle.xc_top.proofs.Joining.{joined_is_bound, picked_are, known_are, left_known, all_known}
+use Rattle.xc_sigmap.specs.MapFiles.{MapValue, map_format}
+use Rattle.xc_sigmap.specs.Sound.{is_sound, are_declared, are_told}
+use Rattle.xc_sigmap.specs.declared.statement.Statement.{Statement}
+use Rattle.xc_sigmap.specs.declared.parts.Tell.{Tell}
+use Rattle.xc_sigmap.specs.declared.parts.Told.{Told}
+use Rattle.xc_sigmap.specs.declared.parts.Told.TheVariants.{Named, Constant}
+use Rattle.xc_sigmap.proofs.Fair.{IsFair, none_is_fair, next_is_fair}
+use Rattle.xc_sigmap.proofs.Sound.{map_is_sound}
+use Rattle.xc_expr.specs.Variables.{are_fit}
+use Rattle.xc_merge.specs.Merges.{Merge, Viewpoint, nobody, viewpoint_at, for_each, parts_of, names_of_parts}
+use Rattle.xc_merge.specs.MergedFrames.{merged_frame, step_digit, prop_digit, digit_by, digit_told, line_of}
+use Rattle.xc_merge.specs.Pieces.{fixed_by, constant_told}
+use Rattle.xc_merge.specs.Faults.{merge_fault, first_of, all_faults, limit_fault, element_limit, initial_fault, viewpoint_faults}
+use Rattle.xc_merge.specs.declared.fault.MergeFault.{MergeFault}
+use Rattle.xc_machine.proofs.Faultless.{faultless, none_of_one, fixed_within}
+use Rattle.xc_ctl.specs.Frames.{Frame, IsFrame}
+use Rattle.xc_ctl.specs.Trees.{is_fit, is_part, sizes_of}
+use Rattle.xc_top.specs.Checks.{signature_of}
+use Rattle.xc_top.proofs.Lattices.{IsNamed, AreNamed, named_at, parts_are_lawful, names_as_many}
 
--- of two lists that pass together the first passes
-all_left : (p : List ℕ → Bool) (xs ys : List (List ℕ)) → list_all p (xs ++ ys) ≡ true → list_all p xs ≡ true
-all_left p [] ys h = refl
-all_left p (x ∷ xs) ys h = let both = and_parts (p x) (list_all p (xs ++ ys)) h in rw both.0 (all_left p xs ys both.1)
+-- a map that a file says, and a viewpoint with a lattice for each of its own, without a fault
+pub record IsGood (m : Merge) : Type 0 where
+  pub sound : is_sound m.plan ≡ true
+  pub count : length m.viewpoints ≡ length m.plan.uses
+  pub are_named : AreNamed m.viewpoints
+  pub faultless : merge_fault m ≡ None
 
--- and so does the second
-all_right : (p : List ℕ → Bool) (xs ys : List (List ℕ)) → list_all p (xs ++ ys) ≡ true → list_all p ys ≡ true
-all_right p [] ys h = h
-all_right p (x ∷ xs) ys h = all_right p xs ys (and_parts (p x) (list_all p (xs ++ ys)) h).1
+-- statements of a file are fair behind those before
+all_fair : {before : List Statement} {rows : List Row} {ss : List Statement} → AreStatements map_format before rows ss → IsFair before → IsFair (before ++ ss)
+all_fair (none before) fair = subst IsFair (sym (append-nil before)) fair
+all_fair (next before row rows s more first rest) fair = subst IsFair (append_assoc before (s ∷ []) more) (all_fair rest (next_is_fair before row.tokens s fair first))
 
--- the values of lines are elements
-lines_known : (v : ViewValue) (l : LatticeValue) → unknown_value v l ≡ None → list_all (is_among l.names) (map (λ (x : PropValue). x.value) v.props) ≡ true
-lines_known v l h = all_left (is_among l.names) (map (λ (x : PropValue). x.value) v.props) (map (λ (c : CommandValue). c.value) v.commands) (all_known l.names (value_words v) h)
+-- so a map that is accepted is sound
+pub accepted_is_sound : (rows : List Row) (plan : MapValue) → IsAccepted map_format rows plan → is_sound plan ≡ true
+accepted_is_sound rows plan is = subst (λ (v : MapValue). is_sound v ≡ true) (sym is.says) (map_is_sound is.statements (all_fair is.read none_is_fair) is.whole)
 
--- and so are those of commands
-commands_known : (v : ViewValue) (l : LatticeValue) → unknown_value v l ≡ None → list_all (is_among l.names) (map (λ (c : CommandValue). c.value) v.commands) ≡ true
-commands_known v l h = all_right (is_among l.names) (map (λ (x : PropValue). x.value) v.props) (map (λ (c : CommandValue). c.value) v.commands) (all_known l.names (value_words v) h)
+-- what is declared in a sound map
+pub record Declared (plan : MapValue) : Type 0 where
+  pub some_uses : 1 ≤ length plan.uses
+  pub few_uses : length plan.uses ≤ 8
+  pub fit : are_fit plan.vars ≡ true
+  pub few_props : length plan.props ≤ 256
+  pub different_props : not (has_twice plan.props) ≡ true
 
--- the transition between two states
-pub step_is : (v : ViewValue) (l : LatticeValue) (commands : List Command) (s t : ℕ) → IsFit l → unknown_value v l ≡ None → map command_value commands ≡ v.commands
-    → step_code (product (l.algebra ∷ [])) v.vars l.names commands (row_at v s) (row_at v t) ≡ join_named l (step_words v s t)
-step_is v l commands s t fit known is =
-    let words = step_words v s t in
-    let same : map (place_of l.names) words ≡ picked (command_code l.names) (leads_to (sizes_of v.vars) (row_at v s) (row_at v t)) commands =
-    ap (λ (cs : List CommandValue). map (place_of l.names) (map (λ (c : CommandValue). c.value) (filter (leads v s t) cs))) (sym is) ∙ picked_are (place_of l.names) (λ (c : CommandValue). c.value) (leads v s t) command_value commands in
-    let elements : AreElements (size l.algebra) (map (place_of l.names) words) =
-    subst (λ (n : ℕ). AreElements n (map (place_of l.names) words)) fit.named (known_are l.names words (left_known l.names (λ (c : CommandValue). c.value) (leads v s t) v.commands (commands_known v l known))) in
-    ap (joined (product (l.algebra ∷ []))) (sym same) ∙ joined_is_bound l.algebra (map (place_of l.names) words) fit.lawful fit.some elements
-
--- the value of a proposition at a state
-pub prop_is : (v : ViewValue) (l : LatticeValue) (lines : List PropLine) (name : List ℕ) (s : ℕ) → IsFit l → unknown_value v l ≡ None → map prop_value lines ≡ v.props
-    → prop_code (product (l.algebra ∷ [])) l.names lines name (row_at v s) ≡ join_named l (prop_words v name s)
-prop_is v l lines name s fit known is =
-    let words = prop_words v name s in
-    let same : map (place_of l.names) words ≡ picked (line_code l.names) (tells_of name (row_at v s)) lines =
-    ap (λ (ls : List PropValue). map (place_of l.names) (map (λ (x : PropValue). x.value) (filter (tells v name s) ls))) (sym is) ∙ picked_are (place_of l.names) (λ (x : PropValue). x.value) (tells v name s) prop_value lines in
-    let elements : AreElements (size l.algebra) (map (place_of l.names) words) =
-    subst (λ (n : ℕ). AreElements n (map (place_of l.names) words)) fit.named (known_are l.names words (left_known l.names (λ (x : PropValue). x.value) (tells v name s) v.props (lines_known v l known))) in
-    ap (joined (product (l.algebra ∷ []))) (sym same) ∙ joined_is_bound l.algebra (map (place_of l.names) words) fit.lawful fit.some elements
-
--- elements as a row
-row_of_elements : (n : ℕ) (xs : List ℕ) (i : ℕ) → AreElements n xs → i < length xs → slice_index xs i < n
-row_of_elements n [] i h low = absurd (omega arith)
-row_of_elements n (x ∷ xs) zero h low = h.0
-row_of_elements n (x ∷ xs) (suc i) h low = row_of_elements n xs i h.1 (omega arith)
-
--- the elements of the values of commands
-command_words : (names : List (List ℕ)) (commands : List Command) → map (place_of names) (map (λ (c : CommandValue). c.value) (map command_value commands)) ≡ map (command_code names) commands
-command_words names [] = refl
-command_words names (c ∷ commands) = ap (λ (more : List ℕ). place_of names c.value ∷ more) (command_words names commands)
-
--- and those of lines
-line_words : (names : List (List ℕ)) (lines : List PropLine) → map (place_of names) (map (λ (x : PropValue). x.value) (map prop_value lines)) ≡ map (line_code names) lines
-line_words names [] = refl
-line_words names (l ∷ lines) = ap (λ (more : List ℕ). place_of names l.value ∷ more) (line_words names lines)
-
--- one part has as many elements as the lattice has names
-pub one_size : (l : LatticeValue) (parts : List LatticeData) → IsFit l → parts ≡ l.algebra ∷ [] → (product parts).size ≡ length l.names
-one_size l parts fit e = ap (λ (ps : List LatticeData). (product ps).size) e ∙ product_size l.algebra ∙ sym fit.named
-
--- which are few enough for a byte
-pub size_small : (l : LatticeValue) (parts : List LatticeData) → IsFit l → parts ≡ l.algebra ∷ [] → (product parts).size ≤ 256
-size_small l parts fit e = omega (arith, one_size l parts fit e, fit.named, fit.few)
-
--- the codes of known words are a row
-known_row : (n m : ℕ) (names words : List (List ℕ)) (codes xs : List ℕ) → list_all (is_among names) words ≡ true → map (place_of names) words ≡ xs → codes ≡ xs → length xs ≡ m → n ≡ length names → IsRow n m codes
-known_row n m names words codes xs h is e count same =
-    let elements : AreElements (length names) codes = subst (AreElements (length names)) (is ∙ sym e) (known_are names words h) in
-    record { count = ap length e ∙ count; range = λ s low. rw same (row_of_elements (length names) codes s elements (omega (arith, ap length e ∙ count))) }
-
--- the codes of commands are a row
-pub commands_row : (v : ViewValue) (l : LatticeValue) (parts : List LatticeData) (commands : List Command) (codes : List ℕ) → IsFit l → parts ≡ l.algebra ∷ [] → unknown_value v l ≡ None → map command_value commands ≡ v.commands → codes ≡ map (command_code l.names) commands → IsRow (product parts).size (length commands) codes
-commands_row v l parts commands codes fit one known is e =
-    known_row (product parts).size (length commands) l.names (map (λ (c : CommandValue). c.value) (map command_value commands)) codes (map (command_code l.names) commands)
-    (rw is (commands_known v l known)) (command_words l.names commands) e (length-map commands (command_code l.names)) (one_size l parts fit one)
-
--- and so are those of lines
-pub lines_row : (v : ViewValue) (l : LatticeValue) (parts : List LatticeData) (lines : List PropLine) (codes : List ℕ) → IsFit l → parts ≡ l.algebra ∷ [] → unknown_value v l ≡ None → map prop_value lines ≡ v.props → codes ≡ map (line_code l.names) lines → IsRow (product parts).size (length lines) codes
-lines_row v l parts lines codes fit one known is e =
-    known_row (product parts).size (length lines) l.names (map (λ (x : PropValue). x.value) (map prop_value lines)) codes (map (line_code l.names) lines)
-    (rw is (lines_known v l known)) (line_words l.names lines) e (length-map lines (line_code l.names)) (one_size l parts fit one)
-
--- the places of the states of a view
-pub places_count : (v : ViewValue) (places : List (List ℕ)) → places ≡ map (row_at v) (range_with_len 0 (states_of v)) → length places ≡ states_of v
-places_count v places e = ap length e ∙ length-map-range_with_len (row_at v) 0 (states_of v)
-
--- the places of a state
-place_is : (v : ViewValue) (places : List (List ℕ)) (s : ℕ) → places ≡ map (row_at v) (range_with_len 0 (states_of v)) → s < states_of v → slice_index_or places s [] ≡ row_at v s
-place_is v places s e low = ap (λ (rows : List (List ℕ)). get_or rows s []) e ∙ get_or-map-range_with_len (row_at v) 0 (states_of v) s s [] low (omega arith)
-
--- each row of places is a state
-pub are_states : (v : ViewValue) (places : List (List ℕ)) → places ≡ map (row_at v) (range_with_len 0 (states_of v)) → AreStates (sizes_of v.vars) places
-are_states v places e =
-    record { digits = λ i low. let here : i < states_of v = omega (arith, places_count v places e) in rw (place_is v places i e here) (digits_are_in_range (sizes_of v.vars) i here) }
-
--- what stands in rows that a function makes of two lists
-entry_of : (f : List ℕ → List ℕ → ℕ) (xs ys rows : List (List ℕ)) (s t : ℕ) → rows ≡ map (λ x. map (f x) ys) xs → s < length xs → t < length ys → entry rows s t ≡ f (get_or xs s []) (get_or ys t [])
-entry_of f xs ys rows s t e low there =
-    ap (λ (some : List (List ℕ)). entry some s t) e
-    ∙ ap (λ (row : List ℕ). slice_index row t) (get_or-map (λ x. map (f x) ys) xs s [] [] low)
-    ∙ get_or-map (f (get_or xs s [])) ys t [] 0 there
-
--- the rows of transitions are those of the frame
-pub steps_are : (v : ViewValue) (l : LatticeValue) (parts : List LatticeData) (commands : List Command) (places rows : List (List ℕ)) (s t : ℕ) → IsFit l → parts ≡ l.algebra ∷ [] → unknown_value v l ≡ None → map command_value commands ≡ v.commands
-    → places ≡ map (row_at v) (range_with_len 0 (states_of v)) → rows ≡ map (λ from. map (step_code (product parts) v.vars l.names commands from) places) places → s < states_of v → t < states_of v → entry rows s t ≡ (frame_of v l).relation s t
-steps_are v l parts commands places rows s t fit one known is e made low there =
-    let count = places_count v places e in
-    entry_of (step_code (product parts) v.vars l.names commands) places places rows s t made (omega (arith, count)) (omega (arith, count))
-    ∙ ap (λ (x : List ℕ). step_code (product parts) v.vars l.names commands x (get_or places t [])) (place_is v places s e low)
-    ∙ ap (λ (x : List ℕ). step_code (product parts) v.vars l.names commands (row_at v s) x) (place_is v places t e there)
-    ∙ ap (λ (ps : List LatticeData). step_code (product ps) v.vars l.names commands (row_at v s) (row_at v t)) one
-    ∙ step_is v l commands s t fit known is
-
--- and so are those of propositions
-pub props_are : (v : ViewValue) (l : LatticeValue) (parts : List LatticeData) (lines : List PropLine) (names places rows : List (List ℕ)) (p s : ℕ) → IsFit l → parts ≡ l.algebra ∷ [] → unknown_value v l ≡ None → map prop_value lines ≡ v.props
-    → names ≡ prop_names v → places ≡ map (row_at v) (range_with_len 0 (states_of v)) → rows ≡ map (λ name. map (prop_code (product parts) l.names lines name) places) names → p < length (prop_names v) → s < states_of v → entry rows p s ≡ (frame_of v l).prop p s
-props_are v l parts lines names places rows p s fit one known is same e made low here =
-    let count = places_count v places e in
-    entry_of (prop_code (product parts) l.names lines) names places rows p s made (omega (arith, ap length same)) (omega (arith, count))
-    ∙ ap (λ (some : List (List ℕ)). prop_code (product parts) l.names lines (name_at some p) (get_or places s [])) same
-    ∙ ap (λ (x : List ℕ). prop_code (product parts) l.names lines (name_at (prop_names v) p) x) (place_is v places s e here)
-    ∙ ap (λ (ps : List LatticeData). prop_code (product ps) l.names lines (name_at (prop_names v) p) (row_at v s)) one
-    ∙ prop_is v l lines (name_at (prop_names v) p) s fit known is
-
--- the rows that the code makes, with what it reads of the view and the lattice
-pub are_steps : (v : ViewValue) (l : LatticeValue) (parts : List LatticeData) (vars : List Domain) (names : List (List ℕ)) (commands : List Command) (places rows : List (List ℕ)) → IsFit l → parts ≡ l.algebra ∷ [] → unknown_value v l ≡ None → vars ≡ v.vars → names ≡ l.names
-    → map command_value commands ≡ v.commands → places ≡ map (row_at v) (range_with_len 0 (states_of v)) → AreRows (product parts).size (length places) rows → rows ≡ map (λ from. map (step_code (product parts) vars names commands from) places) places → AreSteps v l (product parts).size rows
-are_steps v l parts vars names commands places rows fit one known same_vars same_names is e shape made =
-    let now : rows ≡ map (λ from. map (step_code (product parts) v.vars l.names commands from) places) places =
-    made ∙ ap (λ (xs : List Domain). map (λ from. map (step_code (product parts) xs names commands from) places) places) same_vars
-    ∙ ap (λ (ns : List (List ℕ)). map (λ from. map (step_code (product parts) v.vars ns commands from) places) places) same_names in
-    let count = places_count v places e in
+pub declared_parts : (plan : MapValue) → is_sound plan ≡ true → Declared plan
+declared_parts plan h =
+    let declared = (and_parts (are_declared plan) (are_told plan) h).0 in
+    let props = (and_parts _ _ declared).0 in
+    let few = (and_parts _ _ props).0 in
+    let vars = (and_parts _ _ (and_parts _ _ few).0).0 in
+    let uses = (and_parts _ _ (and_parts _ _ (and_parts _ _ vars).0).0).0 in
     record {
-      count = ap length made ∙ length-map places (λ from. map (step_code (product parts) vars names commands from) places) ∙ count;
-      rows_are = subst (λ (n : ℕ). AreRows (product parts).size n rows) count shape;
-      values = λ s t low there. steps_are v l parts commands places rows s t fit one known is e now low there;
+      some_uses = leb-true 1 (length plan.uses) (and_parts _ _ (and_parts _ _ uses).0).1;
+      few_uses = leb-true (length plan.uses) 8 (and_parts _ _ uses).1;
+      fit = (and_parts _ _ vars).1;
+      few_props = leb-true (length plan.props) 256 (and_parts _ _ few).1;
+      different_props = (and_parts _ _ props).1;
     }
 
--- the same of propositions
-pub are_props : (v : ViewValue) (l : LatticeValue) (parts : List LatticeData) (names : List (List ℕ)) (lines : List PropLine) (props places rows : List (List ℕ)) → IsFit l → parts ≡ l.algebra ∷ [] → unknown_value v l ≡ None → names ≡ l.names
-    → map prop_value lines ≡ v.props → props ≡ prop_names v → places ≡ map (row_at v) (range_with_len 0 (states_of v)) → AreRows (product parts).size (length places) rows → rows ≡ map (λ name. map (prop_code (product parts) names lines name) places) props → AreProps v l (product parts).size rows
-are_props v l parts names lines props places rows fit one known same_names is same e shape made =
-    let now : rows ≡ map (λ name. map (prop_code (product parts) l.names lines name) places) props =
-    made ∙ ap (λ (ns : List (List ℕ)). map (λ name. map (prop_code (product parts) ns lines name) places) props) same_names in
-    record {
-      count = ap length made ∙ length-map props (λ name. map (prop_code (product parts) names lines name) places) ∙ ap length same;
-      rows_are = subst (λ (n : ℕ). AreRows (product parts).size n rows) (places_count v places e) shape;
-      values = λ x s low here. props_are v l parts lines props places rows x s fit one known is same e now low here;
+-- no first fault is none at all
+none_first : (faults : List MergeFault) (later : Option MergeFault) → first_of faults later ≡ None → (faults ≡ []) × (later ≡ None)
+none_first [] later h = (refl, h)
+none_first (fault ∷ faults) later h = cc
+
+no_limit : (big : Bool) (fault : MergeFault) (later : Option MergeFault) → cond big (Some fault) later ≡ None → big ≡ false
+no_limit true fault later h = cc
+no_limit false fault later h = refl
+
+few_elements : (m : Merge) → merge_fault m ≡ None → total (sizes (parts_of m)) ≤ 4096
+few_elements m none = ltb-false 4096 (total (sizes (parts_of m))) (no_limit _ _ (initial_fault _) (none_first (all_faults m) (limit_fault m) none).1)
+
+-- digits of all viewpoints
+each_digit : (g : ℕ → ℕ) (found : List Viewpoint) (k : ℕ) → ((i : ℕ) → i < length found → g (k + i) < size (slice_index_or found i nobody).lattice.algebra) → AreDigits (sizes (map (λ (p : Viewpoint). p.lattice.algebra) found)) (map g (range_with_len k (length found)))
+each_digit g [] k h = tt
+each_digit g (p ∷ found) k h =
+    let here : k + 0 ≡ k = omega arith in
+    (
+      subst (λ (j : ℕ). g j < size p.lattice.algebra) here (h 0 (omega arith)),
+      each_digit g found (k + 1) (λ i low. let e : k + suc i ≡ k + 1 + i = omega arith in subst (λ (j : ℕ). g j < size (slice_index_or found i nobody).lattice.algebra) e (h (suc i) (omega arith))),
+    )
+
+digits_in_range : (m : Merge) (f : ℕ → Viewpoint → ℕ) → ((v : ℕ) → v < length m.viewpoints → f v (viewpoint_at m v) < size (viewpoint_at m v).lattice.algebra) → code_of (sizes (parts_of m)) (for_each m f) < (product (parts_of m)).size
+unfolding product
+digits_in_range m f h = codes_are_in_range (sizes (parts_of m)) (for_each m f) (each_digit (λ v. f v (viewpoint_at m v)) m.viewpoints 0 (λ i low. let e : i ≡ 0 + i = omega arith in subst (λ (v : ℕ). f v (viewpoint_at m v) < size (slice_index_or m.viewpoints i nobody).lattice.algebra) e (h i low)))
+
+-- what a viewpoint tells is an element
+word_in_range : (plan : MapValue) (s v : ℕ) (p : Viewpoint) (told : Told) → IsNamed p.lattice → ((c : ℕ) → constant_told p told ≡ Some c → c < length p.lattice.names) → digit_told plan s v p told < size p.lattice.algebra
+word_in_range plan s v p (Named name) is known = join_of_lt _ _ (omega (arith, is.some))
+word_in_range plan s v p (Constant word) is known = omega (arith, is.named, known (place_of p.lattice.names word) refl)
+
+told_in_range : (plan : MapValue) (s v : ℕ) (p : Viewpoint) (o : Option Tell) → IsNamed p.lattice → ((c : ℕ) → fixed_by p o ≡ Some c → c < length p.lattice.names) → digit_by plan s v p o < size p.lattice.algebra
+told_in_range plan s v p None is known = omega (arith, is.some)
+told_in_range plan s v p (Some line) is known = word_in_range plan s v p line.told is known
+
+pub merge_is_framed : (m : Merge) → IsGood m → IsFrame (merged_frame m)
+unfolding merged_frame
+merge_is_framed m good =
+    let faults = none_first (all_faults m) (limit_fault m) good.faultless in record {
+      lawful = parts_are_lawful m good.are_named;
+      steps = λ s t low high. digits_in_range m (step_digit m.plan s t) (λ v here. join_of_lt _ _ (omega (arith, (named_at m.viewpoints v good.are_named here).some)));
+      values = λ k s low high. digits_in_range m (prop_digit m.plan k s)
+          (λ v here. told_in_range m.plan s v (viewpoint_at m v) (line_of m.plan v k) (named_at m.viewpoints v good.are_named here)
+          (λ c e. fixed_within m.plan v k (viewpoint_at m v) c (faultless m.plan v (viewpoint_at m v) (none_of_one m v faults.0 here)) e));
     }
 
--- what formulas denote over the rows of a view they denote over its frame
-pub denoted_over_view : (v : ViewValue) (l : LatticeValue) (parts : List LatticeData) (size : ℕ) (steps props : List (List ℕ)) (tables : List (List Kind)) (functions : List (ℕ → ℕ)) → parts ≡ l.algebra ∷ [] → AreSteps v l size steps → AreProps v l size props
-    → list_all (is_table_in (length l.names) (length (prop_names v))) tables ≡ true → AreDenoted (frame_in parts steps props) tables functions → AreDenoted (frame_of v l) tables functions
-denoted_over_view v l parts size steps props tables functions one a b kinds are =
-    let here : AreDenoted (frame_by (l.algebra ∷ []) (length steps) (entry steps) (length props) (entry props)) tables functions = subst (λ (ps : List LatticeData). AreDenoted (frame_by ps (length steps) (entry steps) (length props) (entry props)) tables functions) one are in
-    let counted : AreDenoted (frame_by (l.algebra ∷ []) (states_of v) (entry steps) (length props) (entry props)) tables functions = subst (λ (n : ℕ). AreDenoted (frame_by (l.algebra ∷ []) n (entry steps) (length props) (entry props)) tables functions) a.count here in
-    let named : AreDenoted (frame_by (l.algebra ∷ []) (states_of v) (entry steps) (length (prop_names v)) (entry props)) tables functions = subst (λ (k : ℕ). AreDenoted (frame_by (l.algebra ∷ []) (states_of v) (entry steps) k (entry props)) tables functions) b.count counted in
-    all_denoted_same (l.algebra ∷ []) (states_of v) (length (prop_names v)) (entry steps) (frame_of v l).relation (entry props) (frame_of v l).prop a.values b.values (length l.names) tables functions kinds named
+-- an element that is both the bottom and the top is each element
+only_one : (o : Operations) → IsAlgebra o → o.bottom ≡ o.top → (a : ℕ) → a < o.size → a ≡ o.bottom
+only_one o laws e a low = laws.antisymmetric a o.bottom low laws.bottom_in_range (subst (λ (x : ℕ). o.below a x ≡ true) (sym e) (laws.top_above a low)) (laws.bottom_below a low)
 
--- the same of what is read of the rows
-pub kinds_same : (size names k m : ℕ) (tables others : List (List Kind)) → size ≡ names → k ≡ m → tables ≡ others → list_all (is_table_in names m) others ≡ true → list_all (is_table_in size k) tables ≡ true
-kinds_same size names k m tables others a b c h = rw (a, b, c) h
+ends_differ : (o : Operations) → IsAlgebra o → 2 ≤ o.size → o.bottom ≡ o.top → ⊥
+ends_differ o laws several e =
+    let zero_is : 0 ≡ o.bottom = only_one o laws e 0 (omega arith) in
+    let one_is : 1 ≡ o.bottom = only_one o laws e 1 (omega arith) in
+    omega arith
 
--- rows by equal numbers
-pub rows_same : (size names n m : ℕ) (rows : List (List ℕ)) → size ≡ names → n ≡ m → AreRows size n rows → AreRows names m rows
-rows_same size names n m rows a b h = rw (sym a, sym b) h
+-- the names of each part are fit
+all_parts : (found : List Viewpoint) → AreNamed found → list_all is_part (map (λ (p : Viewpoint). p.lattice.names) found) ≡ true
+all_parts [] are = refl
+all_parts (p ∷ found) are =
+    and_from _ _ (and_from _ _ (and_from _ _ (le-leb 2 (length p.lattice.names) (omega (arith, are.0.named, are.0.some))) (le-leb (length p.lattice.names) 64 (omega (arith, are.0.named, are.0.few)))) (ap not are.0.different))
+    (all_parts found are.1)
 
--- what formulas denote over rows that are read
-pub denoted_read : (parts : List LatticeData) (steps props more others : List (List ℕ)) (tables some : List (List Kind)) (functions : List (ℕ → ℕ)) → more ≡ steps → others ≡ props → some ≡ tables → AreDenoted (frame_in parts more others) some functions → AreDenoted (frame_in parts steps props) tables functions
-denoted_read parts steps props more others tables some functions a b c h =
-    subst (λ (ts : List (List Kind)). AreDenoted (frame_in parts steps props) ts functions) c
-    (subst (λ (ps : List (List ℕ)). AreDenoted (frame_in parts steps ps) some functions) b
-    (subst (λ (ss : List (List ℕ)). AreDenoted (frame_in parts ss others) some functions) a h))
+-- more than one element
+one_at_least : (parts : List LatticeData) → AreLawful parts → 1 ≤ total (sizes parts)
+one_at_least [] lawful = omega arith
+one_at_least (l ∷ parts) lawful =
+    let more : 1 ≤ total (sizes parts) = one_at_least parts lawful.2 in
+    let product : 1 * 1 ≤ size l * total (sizes parts) = mul-le 1 1 (size l) (total (sizes parts)) (omega (arith, lawful.1)) more in omega arith
+
+product_several : (parts : List LatticeData) → AreLawful parts → 1 ≤ length parts → 2 ≤ total (sizes parts)
+product_several [] lawful some = absurd (omega arith)
+product_several (l ∷ parts) lawful some =
+    let product : 2 * 1 ≤ size l * total (sizes parts) = mul-le 2 1 (size l) (total (sizes parts)) lawful.1 (one_at_least parts lawful.2) in omega arith
+
+-- what formulas over a machine are about is fit to be read
+pub signature_is_fit : (m : Merge) → is_sound m.plan ≡ true → 1 ≤ length m.viewpoints → length m.viewpoints ≤ 8 → AreNamed m.viewpoints → total (sizes (parts_of m)) ≤ 4096 → is_fit (signature_of m) ≡ true
+unfolding product
+signature_is_fit m sound one eight are few =
+    let parts : List LatticeData = parts_of m in
+    let lawful : AreLawful parts = parts_are_lawful m are in
+    let laws : IsAlgebra (product parts) = product_laws parts lawful in
+    let declared : Declared m.plan = declared_parts m.plan sound in
+    let many : length parts ≡ length m.viewpoints = length-map m.viewpoints (λ (p : Viewpoint). p.lattice.algebra) in
+    let rows : length (names_of_parts m) ≡ length m.viewpoints = length-map m.viewpoints (λ (p : Viewpoint). p.lattice.names) in
+    let same : total (sizes_of (names_of_parts m)) ≡ total (sizes parts) = names_as_many m are in
+    let several : 2 ≤ total (sizes parts) = product_several parts lawful (omega arith) in
+    let bottom_in : nat_lt (product parts).bottom (total (sizes_of (names_of_parts m))) ≡ true = lt-ltb _ _ (rw same laws.bottom_in_range) in
+    let top_in : nat_lt (product parts).top (total (sizes_of (names_of_parts m))) ≡ true = lt-ltb _ _ (rw same laws.top_in_range) in
+    let apart : not ((product parts).bottom == (product parts).top) ≡ true = ap not (ne_eqb _ _ (ends_differ (product parts) laws several)) in
+    and_from _ _ (and_from _ _ (and_from _ _ (and_from _ _ (and_from _ _ (and_from _ _ (and_from _ _ (and_from _ _ (le-leb (length m.plan.props) 256 declared.few_props) declared.different_props)
+    (le-leb 1 (length (names_of_parts m)) (omega arith))) (le-leb (length (names_of_parts m)) 8 (omega arith))) (all_parts m.viewpoints are))
+    (le-leb (total (sizes_of (names_of_parts m))) 4096 (omega arith))) bottom_in) top_in) apart
+
+pub merge_is_fit : (m : Merge) → IsGood m → is_fit (signature_of m) ≡ true
+merge_is_fit m good =
+    let declared = declared_parts m.plan good.sound in
+    signature_is_fit m good.sound (omega (arith, good.count, declared.some_uses)) (omega (arith, good.count, declared.few_uses)) good.are_named (few_elements m good.faultless)

@@ -57,8 +57,8 @@ module _ (name bytes : List ℕ) where
   pub bytes_refused : (halt : Halt) → IsCutHalt name bytes halt → Comes (Cuts name (λ rs moments. Ending (JudgesLattice name rs)) bytes) (Err halt)
   bytes_refused halt stopped = cut_stops name bytes (λ rs moments. Ending (JudgesLattice name rs)) halt stopped
 
-pub lattice_loaded : (name bytes : List ℕ) (before shelf : Shelved) (result : Result Answer Halt) → IsLoaded before.told name file_limit bytes → Comes (Cuts name (λ rs moments. Ending (JudgesLattice name rs)) bytes) result → IsPrepared (IsCourse (LatticeOf name)) before shelf result
-lattice_loaded name bytes before shelf result loaded h = load_comes_to name (λ rs moments. Ending (JudgesLattice name rs)) bytes before shelf result loaded h
+pub lattice_loaded : (name bytes : List ℕ) (before shelf : Shelved) (result : Result Answer Halt) → IsLoaded before.told name file_limit bytes → shelf.told ≡ before.told → Comes (Cuts name (λ rs moments. Ending (JudgesLattice name rs)) bytes) result → IsPrepared (IsCourse (LatticeOf name)) before shelf result
+lattice_loaded name bytes before shelf result loaded same h = load_comes_to name (λ rs moments. Ending (JudgesLattice name rs)) bytes before shelf result loaded same h
 
 pub lattice_not_loaded : (name : List ℕ) (shelf shelf_after : Shelved) (halt : Halt) → IsLoadHalt name shelf shelf_after halt → IsPrepared (IsCourse (LatticeOf name)) shelf shelf_after (Err halt)
 lattice_not_loaded name shelf shelf_after halt stopped = load_halted name (λ rs moments. Ending (JudgesLattice name rs)) shelf shelf_after halt stopped

@@ -1,5 +1,5 @@
 -- Words have one outcome at most over given files.
-use Rattle.std.proofs.Common.{◌≡◌, true, ℕ, List, Option, Some, None, MatchOption, sym, ap, ◌∙◌, subst, inl, inr}
+use Rattle.std.proofs.Common.{◌≡◌, true, ℕ, ◌+◌, arith, refl, length, length-append, [], ◌∷◌, ◌++◌, List, Option, Some, None, MatchOption, sym, ap, ◌∙◌, subst, inl, inr}
 use Rattle.xc_base.specs.Formats.{Row}
 use Rattle.xc_base.specs.Lines.{text_rows}
 use Rattle.xc_base.specs.Text.{text_fault}
@@ -10,21 +10,31 @@ use Rattle.xc_base.specs.declared.fault.FileFault.{FileFault}
 use Rattle.xc_theory.proofs.Chains.{heights_are_unique}
 use Rattle.xc_lattice.proofs.Verdicts.{verdicts_are_unique}
 use Rattle.xc_lattice.specs.LatticeFiles.{LatticeValue, Verdict, Faulty, Unlawful, Lawful}
+use Rattle.xc_lattice.specs.LatticeFiles.{IsVerdict}
 use Rattle.xc_view.specs.ViewFiles.{ViewValue}
-use Rattle.std.specs.List.{list_all}
-use Rattle.xc_ctl.specs.Tables.{is_table}
+use Rattle.xc_sigmap.specs.MapFiles.{MapValue, map_format}
+use Rattle.xc_sigmap.specs.declared.parts.Use.{Use}
+use Rattle.xc_sigmap.proofs.Verdicts.{maps_are_unique, accepted_is_faultless as maps_have_no_fault}
+use Rattle.xc_merge.specs.Merges.{Merge, Viewpoint}
+use Rattle.xc_merge.specs.Faults.{merge_fault}
+use Rattle.xc_merge.specs.declared.fault.MergeFault.{MergeFault}
+use Rattle.std.proofs.lemmas.List.{length-map}
+use Rattle.xc_base.specs.Formats.{IsAccepted}
 use Rattle.xc_ctl.specs.declared.kind.Kind.{Kind}
 use Rattle.xc_top.specs.Requests.{Request, LatticeOf, CheckOf}
-use Rattle.xc_top.specs.Texts.{file_line, lattice_text, states_line, value_line}
-use Rattle.xc_top.specs.Checks.{unknown_value, signature_of}
-use Rattle.xc_top.specs.Outcomes.{Outcome, Absent, Refusal, Served, Event, Ends, Loading, Ending, rest, file_limit, HasText, ComesOf, JudgesLattice, Opens, ReadsView, ReadsLattice, ComesOfLattice, Reports, Evaluates, states_excess, formula_line, FormulaTasks, ValueTasks, LatticeTasks, IsCourse}
+use Rattle.xc_top.specs.Texts.{file_line, lattice_text, states_line, merge_line}
+use Rattle.xc_top.specs.Checks.{signature_of}
+use Rattle.xc_top.specs.Outcomes.{Outcome, Absent, Refusal, Served, Event, Ends, Loading, Ending, rest, file_limit, HasText, ComesOf, JudgesLattice, Opens, LoadsViewpoint, LoadsViewpoints, ReadsMap, ReadsView, ReadsLattice, ComesOfLattice, Reports, Evaluates, states_excess, FormulaTasks, MergeTasks, ViewpointTasks, files_of, IsCourse}
+use Rattle.xc_top.specs.Outcomes.ReadsMap.{faulty as map_faulty, accepted as map_accepted}
 use Rattle.xc_top.specs.Outcomes.ReadsView.{faulty as view_faulty, accepted as view_accepted}
 use Rattle.xc_top.specs.Outcomes.ReadsFormulas.{faulty as formulas_faulty, accepted as formulas_accepted}
 use Rattle.xc_top.specs.declared.status.Status.TheVariants.{Done}
 use Rattle.xc_top.proofs.Courses.{Course}
-use Rattle.xc_top.proofs.Reports.{one_report}
+use Rattle.xc_top.proofs.Lattices.{IsNamed, AreNamed, named_more, file_is_named}
+use Rattle.xc_top.proofs.Framed.{IsGood, accepted_is_sound}
+use Rattle.xc_top.proofs.Reports.{AreFormulas, good_formulas, one_report}
 use Rattle.xc_view.proofs.Verdicts.{views_are_unique, accepted_is_faultless as views_have_no_fault}
-use Rattle.xc_ctl.proofs.Verdicts.{accepted_are_tables, tables_are_unique, formula_faults_are_unique, formulas_have_no_fault}
+use Rattle.xc_ctl.proofs.Verdicts.{tables_are_unique, formulas_have_no_fault}
 
 -- what may happen has one end at most
 abbrev Once : (Event → Type 0) → Type 0
@@ -70,51 +80,76 @@ judged_once : (name : List ℕ) (rows : List Row) → Once (Ending (JudgesLattic
 judged_once name rows o p a b =
     comes_once name b.verdict o p (subst (λ v. ComesOf name v o) (verdicts_are_unique rows a.verdict b.verdict a.judged b.judged) a.comes) b.comes
 
+-- a map and viewpoints
+abbrev merge_of : MapValue → List Viewpoint → Merge
+merge_of plan all = record { plan = plan; viewpoints = all }
+
+map_once : (name : List ℕ) (next : MapValue → Course) (rows : List Row) (m : ℕ → List File) → ((plan : MapValue) → IsAccepted map_format rows plan → Once (next plan m)) → Once (ReadsMap name next rows m)
+map_once name next rows m once o p (map_faulty f first a) (map_faulty g also b) = both_refused a b
+map_once name next rows m once o p (map_faulty f first a) (map_accepted v is b) = absurd (maps_have_no_fault rows v f is first)
+map_once name next rows m once o p (map_accepted v is a) (map_faulty f first b) = absurd (maps_have_no_fault rows v f is first)
+map_once name next rows m once o p (map_accepted v is a) (map_accepted w are b) = once w are o p (subst (λ (u : MapValue). next u m (Ends o)) (maps_are_unique rows v w is are) a) b
+
 view_once : (name : List ℕ) (next : ViewValue → Course) (rows : List Row) (m : ℕ → List File) → ((v : ViewValue) → Once (next v m)) → Once (ReadsView name next rows m)
 view_once name next rows m once o p (view_faulty f first a) (view_faulty g also b) = both_refused a b
 view_once name next rows m once o p (view_faulty f first a) (view_accepted v is b) = absurd (views_have_no_fault rows v f is first)
 view_once name next rows m once o p (view_accepted v is a) (view_faulty f first b) = absurd (views_have_no_fault rows v f is first)
 view_once name next rows m once o p (view_accepted v is a) (view_accepted w are b) = once w o p (subst (λ (u : ViewValue). next u m (Ends o)) (views_are_unique rows v w is are) a) b
 
-lattice_comes_once : (name : List ℕ) (next : LatticeValue → Course) (verdict : Verdict) (m : ℕ → List File) → ((l : LatticeValue) → Once (next l m)) → Once (ComesOfLattice name next verdict m)
-lattice_comes_once name next (Faulty fault) m once o p a b = both_refused a b
-lattice_comes_once name next (Unlawful law names) m once o p a b = both_refused a b
-lattice_comes_once name next (Lawful l) m once o p a b = once l o p a b
+lattice_comes_once : (name : List ℕ) (next : LatticeValue → Course) (rows : List Row) (verdict : Verdict) (m : ℕ → List File) → IsVerdict rows verdict → ((l : LatticeValue) → IsNamed l → Once (next l m)) → Once (ComesOfLattice name next verdict m)
+lattice_comes_once name next rows (Faulty fault) m is once o p a b = both_refused a b
+lattice_comes_once name next rows (Unlawful law names) m is once o p a b = both_refused a b
+lattice_comes_once name next rows (Lawful l) m is once o p a b = once l (file_is_named rows l is) o p a b
 
-lattice_once : (name : List ℕ) (next : LatticeValue → Course) (rows : List Row) (m : ℕ → List File) → ((l : LatticeValue) → Once (next l m)) → Once (ReadsLattice name next rows m)
+lattice_once : (name : List ℕ) (next : LatticeValue → Course) (rows : List Row) (m : ℕ → List File) → ((l : LatticeValue) → IsNamed l → Once (next l m)) → Once (ReadsLattice name next rows m)
 lattice_once name next rows m once o p a b =
-    lattice_comes_once name next b.verdict m once o p (subst (λ v. ComesOfLattice name next v m (Ends o)) (verdicts_are_unique rows a.verdict b.verdict a.judged b.judged) a.comes) b.comes
+    lattice_comes_once name next rows b.verdict m b.judged once o p (subst (λ v. ComesOfLattice name next v m (Ends o)) (verdicts_are_unique rows a.verdict b.verdict a.judged b.judged) a.comes) b.comes
 
-value_once : (v : ViewValue) (next : Event → Type 0) (word : Option (List ℕ)) → Once next
-    → (o p : Outcome) → MatchOption word (next (Ends o)) (λ w. Ends o ≡ Ends (Refusal (value_line v.name w))) → MatchOption word (next (Ends p)) (λ w. Ends p ≡ Ends (Refusal (value_line v.name w))) → o ≡ p
-value_once v next None once o p a b = once o p a b
-value_once v next (Some word) once o p a b = both_refused a b
+viewpoint_once : (file : List ℕ) (next : Viewpoint → Course) (m : ℕ → List File) → ((p : Viewpoint) → IsNamed p.lattice → (later : ℕ → List File) → Once (next p later)) → Once (LoadsViewpoint file next m)
+viewpoint_once file next m once =
+    opens_once file (ReadsView file (λ v. Opens v.lattice (ReadsLattice v.lattice (λ l. next (record { view = v; lattice = l }))))) m
+    (λ rows. view_once file (λ v. Opens v.lattice (ReadsLattice v.lattice (λ l. next (record { view = v; lattice = l })))) rows (rest m)
+    (λ v. opens_once v.lattice (ReadsLattice v.lattice (λ l. next (record { view = v; lattice = l }))) (rest m)
+    (λ more. lattice_once v.lattice (λ l. next (record { view = v; lattice = l })) more (rest (rest m)) (λ l is. once (record { view = v; lattice = l }) is (rest (rest m))))))
 
-evaluated_once : (v : ViewValue) (l : LatticeValue) (tables : List (List Kind)) (excess : Option ℕ) → list_all is_table tables ≡ true → (o p : Outcome)
-    → MatchOption excess (Reports v l tables o) (λ count. Ends o ≡ Ends (Refusal (states_line count))) → MatchOption excess (Reports v l tables p) (λ count. Ends p ≡ Ends (Refusal (states_line count))) → o ≡ p
-evaluated_once v l tables None are o p a b = one_report v l tables are o p a b
-evaluated_once v l tables (Some count) are o p a b = both_refused a b
+-- viewpoints with the lattices of files, as many as those found and the files
+record FoundAll (count : ℕ) (all : List Viewpoint) : Type 0 where
+  many : length all ≡ count
+  are_named : AreNamed all
 
-formulas_once : (v : ViewValue) (l : LatticeValue) (name : List ℕ) (rows : List Row) (m : ℕ → List File) → Once (FormulaTasks v l name rows m)
-formulas_once v l name rows m o p (formulas_faulty f first a) (formulas_faulty g also b) =
-    both_refused a (subst (λ (h : FileFault). Ends p ≡ Ends (Refusal (formula_line name h))) (formula_faults_are_unique (signature_of v l) rows g f also first) b)
-formulas_once v l name rows m o p (formulas_faulty f first a) (formulas_accepted tables is b) = absurd (formulas_have_no_fault (signature_of v l) rows tables f is first)
-formulas_once v l name rows m o p (formulas_accepted tables is a) (formulas_faulty f first b) = absurd (formulas_have_no_fault (signature_of v l) rows tables f is first)
-formulas_once v l name rows m o p (formulas_accepted tables is a) (formulas_accepted others are b) =
-    evaluated_once v l others (states_excess v) (accepted_are_tables (signature_of v l) rows others are) o p (subst (λ (ts : List (List Kind)). Evaluates v l ts (Ends o)) (tables_are_unique (signature_of v l) rows tables others is are) a) b
+viewpoints_once : (files : List (List ℕ)) (found : List Viewpoint) (next : List Viewpoint → Course) (m : ℕ → List File) (count : ℕ) → length found + length files ≡ count → AreNamed found
+    → ((all : List Viewpoint) → FoundAll count all → (later : ℕ → List File) → Once (next all later)) → Once (LoadsViewpoints files found next m)
+viewpoints_once [] found next m count e are once = once found (record { many = omega arith; are_named = are }) m
+viewpoints_once (file ∷ files) found next m count e are once =
+    viewpoint_once file (λ p. LoadsViewpoints files (found ++ p ∷ []) next) m
+    (λ p is later. viewpoints_once files (found ++ p ∷ []) next later count (omega (arith, length-append found (p ∷ []))) (named_more found p are is) once)
 
-values_once : (v : ViewValue) (formulas : List ℕ) (l : LatticeValue) (m : ℕ → List File) → Once (ValueTasks v formulas l m)
-values_once v formulas l m =
-    value_once v (Opens formulas (FormulaTasks v l formulas) m) (unknown_value v l)
-    (opens_once formulas (FormulaTasks v l formulas) m (λ rows. formulas_once v l formulas rows (rest m)))
+merge_once : (m : Merge) (next : Event → Type 0) (found : Option MergeFault) → merge_fault m ≡ found → (merge_fault m ≡ None → Once next)
+    → (o p : Outcome) → MatchOption found (next (Ends o)) (λ f. Ends o ≡ Ends (Refusal (merge_line f))) → MatchOption found (next (Ends p)) (λ f. Ends p ≡ Ends (Refusal (merge_line f))) → o ≡ p
+merge_once m next None e once o p a b = once e o p a b
+merge_once m next (Some fault) e once o p a b = both_refused a b
 
-check_once : (view formulas : List ℕ) (m : ℕ → List File) → Once (IsCourse (CheckOf view formulas) m)
-check_once view formulas m =
-    opens_once view (ReadsView view (LatticeTasks formulas)) m
-    (λ rows. view_once view (LatticeTasks formulas) rows (rest m)
-    (λ v. opens_once v.lattice (ReadsLattice v.lattice (ValueTasks v formulas)) (rest m)
-    (λ more. lattice_once v.lattice (ValueTasks v formulas) more (rest (rest m)) (λ l. values_once v formulas l (rest (rest m))))))
+evaluated_once : (m : Merge) (formulas : List (List Kind)) (excess : Option ℕ) → AreFormulas m formulas → (o p : Outcome)
+    → MatchOption excess (Reports m formulas o) (λ count. Ends o ≡ Ends (Refusal (states_line count))) → MatchOption excess (Reports m formulas p) (λ count. Ends p ≡ Ends (Refusal (states_line count))) → o ≡ p
+evaluated_once m formulas None are o p a b = one_report m formulas are o p a b
+evaluated_once m formulas (Some count) are o p a b = both_refused a b
+
+formulas_once : (m : Merge) (name : List ℕ) (rows : List Row) (moments : ℕ → List File) → IsGood m → Once (FormulaTasks m name rows moments)
+formulas_once m name rows moments good o p (formulas_faulty f first a) (formulas_faulty g also b) = both_refused a b
+formulas_once m name rows moments good o p (formulas_faulty f first a) (formulas_accepted tables is b) = absurd (formulas_have_no_fault (signature_of m) rows tables f is first)
+formulas_once m name rows moments good o p (formulas_accepted tables is a) (formulas_faulty f first b) = absurd (formulas_have_no_fault (signature_of m) rows tables f is first)
+formulas_once m name rows moments good o p (formulas_accepted tables is a) (formulas_accepted others are b) =
+    evaluated_once m others (states_excess m) (good_formulas m rows others good are) o p (subst (λ (ts : List (List Kind)). Evaluates m ts (Ends o)) (tables_are_unique (signature_of m) rows tables others is are) a) b
+
+check_once : (sigmap formulas : List ℕ) (m : ℕ → List File) → Once (IsCourse (CheckOf sigmap formulas) m)
+check_once sigmap formulas m =
+    opens_once sigmap (ReadsMap sigmap (ViewpointTasks formulas)) m
+    (λ rows. map_once sigmap (ViewpointTasks formulas) rows (rest m)
+    (λ plan accepted. viewpoints_once (files_of plan) [] (MergeTasks plan formulas) (rest m) (length plan.uses) (omega (arith, length-map plan.uses (λ (u : Use). u.file))) tt
+    (λ all found later. merge_once (merge_of plan all) (Opens formulas (FormulaTasks (merge_of plan all) formulas) later) (merge_fault (merge_of plan all)) refl
+    (λ none. opens_once formulas (FormulaTasks (merge_of plan all) formulas) later
+    (λ last. formulas_once (merge_of plan all) formulas last (rest later) (record { sound = accepted_is_sound rows plan accepted; count = found.many; are_named = found.are_named; faultless = none }))))))
 
 pub course_once : (request : Request) (m : ℕ → List File) → Once (IsCourse request m)
 course_once (LatticeOf name) m = opens_once name (λ rows moments. Ending (JudgesLattice name rows)) m (λ rows. judged_once name rows)
-course_once (CheckOf view formulas) m = check_once view formulas m
+course_once (CheckOf sigmap formulas) m = check_once sigmap formulas m

@@ -1,88 +1,149 @@
 -- There is one text of the values of formulas, and one at most.
-use Rattle.std.proofs.Common.{◌≡◌, ℕ, zero, suc, ◌+◌, ◌-◌, ◌<◌, ◌≤◌, true, ◌&&◌, nat_le, List, [], ◌∷◌, ◌++◌, length, refl, sym, ◌∙◌, ap, arith}
-use Rattle.std.specs.List.{list_all, range_with_len, flat_map}
+use Rattle.std.proofs.Common.{◌≡◌, ℕ, zero, suc, ◌+◌, ◌-◌, ◌<◌, ◌≤◌, Bool, true, false, ◌&&◌, nat_le, List, [], ◌∷◌, ◌++◌, length, map, refl, sym, ◌∙◌, ap, subst, arith}
+use Rattle.std.specs.List.{list_all, range_with_len, flat_map, filter, sum}
 use Rattle.std.proofs.lemmas.Bool.{and_parts, leb-true}
-use Rattle.xc_theory.specs.Chains.{IsHeight}
+use Rattle.xc_theory.specs.Lattices.{LatticeData}
 use Rattle.xc_theory.proofs.Chains.{heights_are_unique}
-use Rattle.xc_lattice.specs.LatticeFiles.{LatticeValue}
-use Rattle.xc_view.specs.ViewFiles.{ViewValue}
-use Rattle.xc_ctl.specs.Frames.{Frame}
-use Rattle.xc_ctl.specs.Tables.{is_table, are_ordered_from}
+use Rattle.xc_alg.specs.Products.{product}
+use Rattle.xc_product.specs.Heights.{AreHeights}
+use Rattle.xc_merge.specs.Merges.{Merge, parts_of, names_of_parts}
+use Rattle.xc_merge.specs.Projections.{states_of}
+use Rattle.xc_merge.specs.MergedFrames.{merged_frame, initials_of, is_merged_initial}
+use Rattle.xc_theory.specs.Codes.{total}
+use Rattle.xc_base.specs.Formats.{Row, IsAccepted}
+use Rattle.xc_ctl.specs.FormulaFiles.{formula_format}
+use Rattle.xc_ctl.specs.Trees.{sizes_of}
+use Rattle.xc_ctl.proofs.Verdicts.{accepted_are_tables}
+use Rattle.xc_ctl.proofs.Ranges.{tables_in_range}
+use Rattle.xc_ctl.specs.Frames.{Frame, IsFrame}
+use Rattle.xc_ctl.specs.Tables.{is_table, is_table_in, are_ordered_from}
+use Rattle.xc_ctl.specs.Rounds.{RoundsTable, IsTableFor}
 use Rattle.xc_ctl.specs.declared.kind.Kind.{Kind}
-use Rattle.xc_ctl.proofs.Denoting.{denotations_exist, denotations_are_unique}
-use Rattle.xc_top.specs.Checks.{states_of, frame_of, view_text, value_text, formula_text, formulas_text, check_text, initials_of, IsDenoted, AreDenoted}
-use Rattle.xc_top.specs.Checks.AreDenoted.{none, next}
+use Rattle.xc_top.specs.Checks.{signature_of, map_text, node_text, value_text, block_text, blocks_text, check_text, AreTables}
 use Rattle.xc_top.specs.Outcomes.{Outcome, Served, Reports}
-use Rattle.xc_top.specs.Saying.{initial_text}
 use Rattle.xc_top.specs.declared.status.Status.TheVariants.{Done}
-use Rattle.xc_top.proofs.Saying.{initials_said}
+use Rattle.xc_top.proofs.Lattices.{names_as_many}
+use Rattle.xc_top.proofs.Framed.{IsGood, merge_is_framed, merge_is_fit}
+use Rattle.xc_top.proofs.Tables.{TellSame, IsFormula, tables_tell_same, some_table}
 
 -- what a test of a table says of its nodes
 pub record IsTable (nodes : List Kind) : Type 0 where
   pub some : 1 ≤ length nodes
+  pub few : length nodes ≤ 256
   pub ordered : are_ordered_from 0 nodes ≡ true
 
 -- a table has a node, and its nodes are in order
 pub table_parts : (nodes : List Kind) → is_table nodes ≡ true → IsTable nodes
 table_parts nodes h =
     let outer = and_parts (nat_le 1 (length nodes) && nat_le (length nodes) 256) (are_ordered_from 0 nodes) h in
-    record { some = leb-true 1 (length nodes) (and_parts (nat_le 1 (length nodes)) (nat_le (length nodes) 256) outer.0).0; ordered = outer.1 }
+    let inner = and_parts (nat_le 1 (length nodes)) (nat_le (length nodes) 256) outer.0 in
+    record { some = leb-true 1 (length nodes) inner.0; few = leb-true (length nodes) 256 inner.1; ordered = outer.1 }
 
--- functions that agree at all states have the same lines at some of them
-lines_same : (v : ViewValue) (l : LatticeValue) (f g : ℕ → ℕ) (n k m : ℕ) → k + n ≤ m → ((s : ℕ) → s < m → f s ≡ g s) → flat_map (initial_text v l f) (range_with_len k n) ≡ flat_map (initial_text v l g) (range_with_len k n)
-lines_same v l f g zero k m h same = refl
-lines_same v l f g (suc n) k m h same =
-    let first : f k ≡ g k = same k (omega arith) in
-    let more = lines_same v l f g n (k + 1) m (omega arith) same in
+-- one list of heights
+heights_same : (parts : List LatticeData) (hs gs : List ℕ) → AreHeights parts hs → AreHeights parts gs → hs ≡ gs
+heights_same [] [] [] a b = refl
+heights_same [] [] (g ∷ gs) a b = absurd b
+heights_same [] (h ∷ hs) gs a b = absurd a
+heights_same (l ∷ parts) [] gs a b = absurd a
+heights_same (l ∷ parts) (h ∷ hs) [] a b = absurd b
+heights_same (l ∷ parts) (h ∷ hs) (g ∷ gs) a b =
+    let first : h ≡ g = heights_are_unique l.order h g a.0 b.0 in
+    let more : hs ≡ gs = heights_same parts hs gs a.1 b.1 in
+    cc
+
+-- one state more, picked or left out
+one_below : (p : ℕ → Bool) (k : ℕ) (states : List ℕ) (f g : ℕ → List ℕ) (b : Bool) → p k ≡ b → f k ≡ g k → flat_map f (filter p states) ≡ flat_map g (filter p states) → flat_map f (filter p (k ∷ states)) ≡ flat_map g (filter p (k ∷ states))
+one_below p k states f g true e first more = rw (e, first, more) refl
+one_below p k states f g false e first more = rw (e, more) refl
+
+-- functions that agree below a number agree on all that a test picks there
+each_below : (p : ℕ → Bool) (k n m : ℕ) (f g : ℕ → List ℕ) → k + n ≤ m → ((s : ℕ) → s < m → f s ≡ g s) → flat_map f (filter p (range_with_len k n)) ≡ flat_map g (filter p (range_with_len k n))
+each_below p k zero m f g h same = refl
+each_below p k (suc n) m f g h same = one_below p k (range_with_len (k + 1) n) f g (p k) refl (same k (omega arith)) (each_below p (k + 1) n m f g (omega arith) same)
+
+-- tables that tell the same at the states have the same lines of values
+values_same : (m : Merge) (f g : ℕ → ℕ) → ((s : ℕ) → s < states_of m.plan → f s ≡ g s) → flat_map (value_text m f) (initials_of m) ≡ flat_map (value_text m g) (initials_of m)
+unfolding initials_of
+values_same m f g same = each_below (is_merged_initial m) 0 (states_of m.plan) (states_of m.plan) (value_text m f) (value_text m g) (omega arith) (λ s low. let e : f s ≡ g s = same s low in rw e refl)
+
+-- and the same lines of rounds
+rounds_same : (nodes : List Kind) (t u : RoundsTable) (k n : ℕ) → k + n ≤ length nodes → ((i : ℕ) → i < length nodes → t.rounds i ≡ u.rounds i) → flat_map (node_text nodes t) (range_with_len k n) ≡ flat_map (node_text nodes u) (range_with_len k n)
+rounds_same nodes t u k zero h same = refl
+rounds_same nodes t u k (suc n) h same =
+    let first : t.rounds k ≡ u.rounds k = same k (omega arith) in
+    let more = rounds_same nodes t u (k + 1) n (omega arith) same in
     rw (first, more) refl
 
--- so their formulas have the same text
-formula_same : (v : ViewValue) (l : LatticeValue) (number : ℕ) (f g : ℕ → ℕ) → ((s : ℕ) → s < states_of v → f s ≡ g s) → formula_text v l number f ≡ formula_text v l number g
-formula_same v l number f g same =
-    let lines : flat_map (value_text v l f) (initials_of v) ≡ flat_map (value_text v l g) (initials_of v) =
-    sym (initials_said v l f (range_with_len 0 (states_of v))) ∙ lines_same v l f g (states_of v) 0 (states_of v) (omega arith) same ∙ initials_said v l g (range_with_len 0 (states_of v)) in
-    rw lines refl
+block_same : (m : Merge) (number : ℕ) (nodes : List Kind) (t u : RoundsTable) → 1 ≤ length nodes → TellSame (states_of m.plan) (length nodes) t u → block_text m number nodes t ≡ block_text m number nodes u
+block_same m number nodes t u some same =
+    let rounds = rounds_same nodes t u 0 (length nodes) (omega arith) same.rounds in
+    let values = values_same m (t.at (length nodes - 1)) (u.at (length nodes - 1)) (λ s low. same.at (length nodes - 1) s (omega arith) low) in
+    rw (rounds, values) refl
 
--- what a formula denotes, at the states
-one_function : (frame : Frame) (nodes : List Kind) (f g : ℕ → ℕ) → is_table nodes ≡ true → IsDenoted frame nodes f → IsDenoted frame nodes g → (s : ℕ) → s < frame.states → f s ≡ g s
-one_function frame nodes f g h a b s low =
-    let table = table_parts nodes h in
-    a.last s ∙ denotations_are_unique frame nodes a.functions b.functions table.ordered a.denoted b.denoted (length nodes - 1) s (omega (arith, table.some)) low ∙ sym (b.last s)
+-- formulas over a frame
+pub record AreFormulas (m : Merge) (formulas : List (List Kind)) : Type 0 where
+  pub framed : IsFrame (merged_frame m)
+  pub ordered : list_all is_table formulas ≡ true
+  pub within : list_all (is_table_in (product (parts_of m)).size (length m.plan.props)) formulas ≡ true
+
+first_formula : (m : Merge) (nodes : List Kind) (formulas : List (List Kind)) → AreFormulas m (nodes ∷ formulas) → IsFormula (merged_frame m) nodes
+unfolding merged_frame
+first_formula m nodes formulas are = record {
+  framed = are.framed;
+  ordered = (and_parts (is_table nodes) (list_all is_table formulas) are.ordered).0;
+  within = (and_parts (is_table_in (product (parts_of m)).size (length m.plan.props) nodes) (list_all (is_table_in (product (parts_of m)).size (length m.plan.props)) formulas) are.within).0;
+}
+
+more_formulas : (m : Merge) (nodes : List Kind) (formulas : List (List Kind)) → AreFormulas m (nodes ∷ formulas) → AreFormulas m formulas
+more_formulas m nodes formulas are = record {
+  framed = are.framed;
+  ordered = (and_parts (is_table nodes) (list_all is_table formulas) are.ordered).1;
+  within = (and_parts (is_table_in (product (parts_of m)).size (length m.plan.props) nodes) (list_all (is_table_in (product (parts_of m)).size (length m.plan.props)) formulas) are.within).1;
+}
+
+same_at_states : (m : Merge) (nodes : List Kind) (t u : RoundsTable) → TellSame (merged_frame m).states (length nodes) t u → TellSame (states_of m.plan) (length nodes) t u
+unfolding merged_frame
+same_at_states m nodes t u same = same
 
 -- so formulas have one text
-formulas_same : (v : ViewValue) (l : LatticeValue) (frame : Frame) (number : ℕ) (tables : List (List Kind)) (fs gs : List (ℕ → ℕ)) → frame.states ≡ states_of v → list_all is_table tables ≡ true → AreDenoted frame tables fs → AreDenoted frame tables gs → formulas_text v l number fs ≡ formulas_text v l number gs
-formulas_same v l frame number [] [] [] e h none none = refl
-formulas_same v l frame number [] [] (g ∷ gs) e h a b = elim b [ ]
-formulas_same v l frame number [] (f ∷ fs) gs e h a b = elim a [ ]
-formulas_same v l frame number (nodes ∷ tables) [] gs e h a b = elim a [ ]
-formulas_same v l frame number (nodes ∷ tables) (f ∷ fs) [] e h a b = elim b [ ]
-formulas_same v l frame number (nodes ∷ tables) (f ∷ fs) (g ∷ gs) e h (next _ _ _ _ a more) (next _ _ _ _ b others) =
-    let both = and_parts (is_table nodes) (list_all is_table tables) h in
-    let first = formula_same v l number f g (λ s low. one_function frame nodes f g both.0 a b s (omega arith)) in
-    ap (λ (text : List ℕ). text ++ formulas_text v l (number + 1) fs) first ∙ ap (λ (text : List ℕ). formula_text v l number g ++ text) (formulas_same v l frame (number + 1) tables fs gs e both.1 more others)
+blocks_same : (m : Merge) (number : ℕ) (formulas : List (List Kind)) (ts us : List RoundsTable) → AreFormulas m formulas → AreTables (merged_frame m) formulas ts → AreTables (merged_frame m) formulas us → blocks_text m number formulas ts ≡ blocks_text m number formulas us
+blocks_same m number [] ts us are a b = refl
+blocks_same m number (nodes ∷ formulas) [] us are a b = absurd a
+blocks_same m number (nodes ∷ formulas) (t ∷ ts) [] are a b = absurd b
+blocks_same m number (nodes ∷ formulas) (t ∷ ts) (u ∷ us) are a b =
+    let formula = first_formula m nodes formulas are in
+    let first : block_text m number nodes t ≡ block_text m number nodes u = block_same m number nodes t u (table_parts nodes formula.ordered).some (same_at_states m nodes t u (tables_tell_same (merged_frame m) nodes t u formula a.0 b.0)) in
+    ap (λ (text : List ℕ). text ++ blocks_text m (number + 1) formulas ts) first ∙ ap (λ (text : List ℕ). block_text m number nodes u ++ text) (blocks_same m (number + 1) formulas ts us (more_formulas m nodes formulas are) a.1 b.1)
+
+-- the formulas of a file over what is merged
+pub good_formulas : (m : Merge) (rows : List Row) (formulas : List (List Kind)) → IsGood m → IsAccepted (formula_format (signature_of m)) rows formulas → AreFormulas m formulas
+good_formulas m rows formulas good accepted = record {
+  framed = merge_is_framed m good;
+  ordered = accepted_are_tables (signature_of m) rows formulas accepted;
+  within = subst (λ (size : ℕ). list_all (is_table_in size (length m.plan.props)) formulas ≡ true) (names_as_many m good.are_named)
+      (subst (λ (ts : List (List Kind)). list_all (is_table_in (total (sizes_of (names_of_parts m))) (length m.plan.props)) ts ≡ true) (sym accepted.says) (tables_in_range (signature_of m) accepted.statements (merge_is_fit m good)));
+}
 
 -- there is one report at most
-pub one_report : (v : ViewValue) (l : LatticeValue) (tables : List (List Kind)) → list_all is_table tables ≡ true → (o p : Outcome) → Reports v l tables o → Reports v l tables p → o ≡ p
-one_report v l tables h o p a b =
-    let height = heights_are_unique l.algebra.order a.height b.height a.is_height b.is_height in
-    let formulas = formulas_same v l (frame_of v l) 1 tables a.functions b.functions refl h a.denoted b.denoted in
+pub one_report : (m : Merge) (formulas : List (List Kind)) → AreFormulas m formulas → (o p : Outcome) → Reports m formulas o → Reports m formulas p → o ≡ p
+one_report m formulas are o p a b =
+    let heights = heights_same (parts_of m) a.heights b.heights a.are_heights b.are_heights in
+    let blocks = blocks_same m 1 formulas a.tables b.tables are a.are_tables b.are_tables in
     a.served
-    ∙ ap (λ (k : ℕ). Served Done (check_text v l k a.functions)) height
-    ∙ ap (λ (text : List ℕ). Served Done (view_text v l b.height ++ text)) formulas
+    ∙ ap (λ (hs : List ℕ). Served Done (check_text m (sum hs) formulas a.tables)) heights
+    ∙ ap (λ (text : List ℕ). Served Done (map_text m (sum b.heights) ++ text)) blocks
     ∙ sym b.served
 
--- formulas denote functions
-some_functions : (frame : Frame) (tables : List (List Kind)) → list_all is_table tables ≡ true → (functions : List (ℕ → ℕ)) × AreDenoted frame tables functions
-some_functions frame [] h = ([], none)
-some_functions frame (nodes ∷ tables) h =
-    let both = and_parts (is_table nodes) (list_all is_table tables) h in
-    let more = some_functions frame tables both.1 in
-    let all = denotations_exist frame nodes (table_parts nodes both.0).ordered in
-    let f : ℕ → ℕ = all.0 (length nodes - 1) in
-    (f ∷ more.0, next nodes f tables more.0 (record { functions = all.0; denoted = all.1; last = λ s. refl }) more.1)
+-- each formula has a table
+some_tables : (m : Merge) (formulas : List (List Kind)) → AreFormulas m formulas → (tables : List RoundsTable) × AreTables (merged_frame m) formulas tables
+some_tables m [] are = ([], tt)
+some_tables m (nodes ∷ formulas) are =
+    let first = some_table (merged_frame m) nodes (first_formula m nodes formulas are) in
+    let more = some_tables m formulas (more_formulas m nodes formulas are) in
+    (first.0 ∷ more.0, (first.1, more.1))
 
 -- and there is a report
-pub some_report : (v : ViewValue) (l : LatticeValue) (tables : List (List Kind)) → list_all is_table tables ≡ true → (h : ℕ) → IsHeight l.algebra.order h → (o : Outcome) × Reports v l tables o
-some_report v l tables are h is =
-    let some = some_functions (frame_of v l) tables are in
-    (Served Done (check_text v l h some.0), record { height = h; functions = some.0; is_height = is; denoted = some.1; served = refl })
+pub some_report : (m : Merge) (formulas : List (List Kind)) → AreFormulas m formulas → (heights : List ℕ) → AreHeights (parts_of m) heights → (o : Outcome) × Reports m formulas o
+some_report m formulas are heights is =
+    let some = some_tables m formulas are in
+    (Served Done (check_text m (sum heights) formulas some.0), record { heights = heights; tables = some.0; are_heights = is; are_tables = some.1; served = refl })

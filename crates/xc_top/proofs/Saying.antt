@@ -4,16 +4,9 @@ use Rattle.std.specs.List.{range_with_len, filter, flat_map}
 use Rattle.xc_theory.specs.Codes.{AreDigits}
 use Rattle.xc_expr.specs.Variables.{sizes_of}
 use Rattle.xc_expr.specs.declared.domain.Domain.{Domain}
-use Rattle.xc_view.specs.ViewFiles.{ViewValue}
-use Rattle.xc_view.specs.Meaning.{is_initial, row_at}
-use Rattle.xc_lattice.specs.LatticeFiles.{LatticeValue}
-use Rattle.std.proofs.lemmas.List.{get_or_read}
-use Rattle.std.proofs.lemmas.List.FromFn.{get_or-map-range_with_len}
-use Rattle.xc_theory.proofs.Codes.{digits_are_in_range}
-use Rattle.xc_top.specs.Checks.{places_text, value_text, formula_text, formulas_text, states_of}
-use Rattle.xc_top.proofs.Framing.{drop_read}
-use Rattle.xc_top.specs.Evaluating.{AreRows, IsRow}
-use Rattle.xc_top.specs.Saying.{place_text, initial_text}
+use Rattle.xc_base.specs.Names.{name_at}
+use Rattle.xc_top.specs.Checks.{places_text, digits_text}
+use Rattle.xc_top.specs.Saying.{place_text, mark_of}
 use Rattle.std.proofs.Math.Seq.{drop-length}
 use Rattle.std.proofs.lemmas.Grind.{flat_map-append}
 
@@ -55,16 +48,27 @@ place_pushed vars row text new base n i x d are count low is at known e =
 pub places_none : (vars : List Domain) (row text : List ℕ) (n : ℕ) → n ≡ length vars → text ++ places_text (drop n vars) (drop n row) ≡ text
 places_none vars row text n e = rw (e, drop-length vars) (append-nil text)
 
--- one state more, with its line where it is initial
-one_said : (v : ViewValue) (l : LatticeValue) (f : ℕ → ℕ) (s : ℕ) (states : List ℕ) (b : Bool) → is_initial v s ≡ b → flat_map (initial_text v l f) states ≡ flat_map (value_text v l f) (filter (is_initial v) states)
-    → flat_map (initial_text v l f) (s ∷ states) ≡ flat_map (value_text v l f) (filter (is_initial v) (s ∷ states))
-one_said v l f s states true e more = rw (e, more) refl
-one_said v l f s states false e more = rw (e, more) refl
+-- the text of the digits from one on is that of it and those behind it
+digits_next : (mark : ℕ) (parts : List (List (List ℕ))) (row : List ℕ) (i digit : ℕ) (names : List (List ℕ)) → i < length parts → i < length row → names ≡ get_or parts i names → digit ≡ get_or row i 0
+    → digits_text mark (drop i parts) (drop i row) ≡ mark ∷ name_at names digit ++ digits_text 44 (drop (suc i) parts) (drop (suc i) row)
+digits_next mark [] row i digit names low in_row is at = absurd (omega arith)
+digits_next mark (n ∷ parts) [] i digit names low in_row is at = absurd (omega arith)
+digits_next mark (n ∷ parts) (x ∷ row) zero digit names low in_row is at = rw (is, at) refl
+digits_next mark (n ∷ parts) (x ∷ row) (suc i) digit names low in_row is at = digits_next mark parts row i digit names (omega arith) (omega arith) is at
 
--- the lines of the initial states among some
-pub initials_said : (v : ViewValue) (l : LatticeValue) (f : ℕ → ℕ) (states : List ℕ) → flat_map (initial_text v l f) states ≡ flat_map (value_text v l f) (filter (is_initial v) states)
-initials_said v l f [] = refl
-initials_said v l f (s ∷ states) = one_said v l f s states (is_initial v s) refl (initials_said v l f states)
+-- the text with one digit more, and what is left to say
+pub digit_pushed : (parts : List (List (List ℕ))) (row text new base : List ℕ) (n i digit : ℕ) (names : List (List ℕ)) → length row ≡ length parts → n ≡ length parts → i < n → names ≡ get_or parts i names → digit ≡ get_or row i 0
+    → text ++ digits_text (mark_of i) (drop i parts) (drop i row) ≡ base → new ≡ text ++ mark_of i ∷ name_at names digit → new ++ digits_text (mark_of (i + 1)) (drop (i + 1) parts) (drop (i + 1) row) ≡ base
+digit_pushed parts row text new base n i digit names same count low is at known e =
+    let there : i < length parts = omega arith in
+    let later : mark_of (i + 1) ≡ 44 = grind arith in
+    rw (e, later, add-one)
+    (regrouped text (mark_of i ∷ name_at names digit) (digits_text 44 (drop (suc i) parts) (drop (suc i) row)) (digits_text (mark_of i) (drop i parts) (drop i row)) base
+    (digits_next (mark_of i) parts row i digit names there (omega arith) is at) known)
+
+-- behind the last digit nothing is left to say
+pub digits_none : (mark : ℕ) (parts : List (List (List ℕ))) (row text : List ℕ) (n : ℕ) → n ≡ length parts → text ++ digits_text mark (drop n parts) (drop n row) ≡ text
+digits_none mark parts row text n e = rw (e, drop-length parts) (append-nil text)
 
 -- the numbers up to one are those before it and it
 range_more : (k n : ℕ) → range_with_len k (suc n) ≡ range_with_len k n ++ (k + n) ∷ []
@@ -83,37 +87,3 @@ line_pushed f text new base s known e =
     rw add-one
     (e ∙ ap (λ (t : List ℕ). t ++ f s) known ∙ append_assoc base (flat_map f (range_with_len 0 s)) (f s) ∙ ap (λ (more : List ℕ). base ++ more) (sym (lines_more f s)))
 
--- the places of a state, one for each variable
-pub row_digits : (v : ViewValue) (s : ℕ) (row : List ℕ) → s < states_of v → row ≡ row_at v s → AreDigits (sizes_of v.vars) row
-row_digits v s row low e = rw e (digits_are_in_range (sizes_of v.vars) s low)
-
--- a state has as many places as there are variables
-pub row_room : (v : ViewValue) (s : ℕ) (row : List ℕ) → s < states_of v → row ≡ row_at v s → length row ≡ length v.vars
-row_room v s row low e = place_room v.vars row (row_digits v s row low e)
-
--- the places of a state that is read
-pub row_read : (v : ViewValue) (places : List (List ℕ)) (i : ℕ) (x : List ℕ) → places ≡ map (row_at v) (range_with_len 0 (states_of v)) → i < states_of v → x ≡ get_or places i x → x ≡ row_at v i
-row_read v places i x e low is = is ∙ ap (λ (rows : List (List ℕ)). get_or rows i x) e ∙ get_or-map-range_with_len (row_at v) 0 (states_of v) i i x low (omega arith)
-
--- each of rows of codes is a row of codes
-pub row_given : (size n : ℕ) (rows : List (List ℕ)) (i : ℕ) (x y : List ℕ) → AreRows size n rows → i < length rows → x ≡ get_or rows i x → y ≡ x → IsRow size n y
-row_given size n rows i x y h low is same =
-    let read : y ≡ get_or rows i [] = same ∙ get_or_read rows i x low is [] in
-    record {
-      count = ap (λ (r : List ℕ). length r) read ∙ h.lengths i low;
-      range = λ s within. subst (λ (r : List ℕ). slice_index r s < size) (sym read) (h.range i s low within);
-    }
-
--- the text of the formulas from one on is that of it and those behind it
-pub formula_pushed : (v : ViewValue) (l : LatticeValue) (rows : List (List ℕ)) (i : ℕ) (x y text new base : List ℕ) → i < length rows → x ≡ get_or rows i x → y ≡ x → text ++ formulas_text v l (i + 1) (map slice_index (drop i rows)) ≡ base
-    → new ≡ text ++ formula_text v l (i + 1) (slice_index y) → new ++ formulas_text v l (i + 1 + 1) (map slice_index (drop (i + 1) rows)) ≡ base
-formula_pushed v l rows i x y text new base low is same known e =
-    rw (e, same)
-    (regrouped text (formula_text v l (i + 1) (slice_index x)) (formulas_text v l (i + 1 + 1) (map slice_index (drop (i + 1) rows))) (formulas_text v l (i + 1) (map slice_index (drop i rows))) base
-    (ap (λ (more : List (List ℕ)). formulas_text v l (i + 1) (map slice_index more)) (drop_read rows i x low is)) known)
-
--- behind the last formula nothing is left to say
-pub formulas_none : (v : ViewValue) (l : LatticeValue) (rows : List (List ℕ)) (n k : ℕ) (text base : List ℕ) → length rows ≤ n → n ≤ length rows → text ++ formulas_text v l k (map slice_index (drop n rows)) ≡ base → text ≡ base
-formulas_none v l rows n k text base high low known =
-    let e : n ≡ length rows = omega arith in
-    sym (append-nil text) ∙ sym (ap (λ (more : List (List ℕ)). text ++ formulas_text v l k (map slice_index more)) (ap (λ (j : ℕ). drop j rows) e ∙ drop-length rows)) ∙ known

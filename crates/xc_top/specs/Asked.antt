@@ -13,7 +13,7 @@ use Rattle.xc_top.specs.declared.status.Status.TheVariants.{Words, Refused, Read
 
 abbrev pub asked : Request → spec.Request
 asked (Lattice file) = LatticeOf file.now
-asked (Check view formulas) = CheckOf view.now formulas.now
+asked (Check sigmap formulas) = CheckOf sigmap.now formulas.now
 
 -- the status of a halt, and its line for err
 abbrev pub halt_status : Halt → Status

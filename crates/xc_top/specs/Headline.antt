@@ -1,8 +1,8 @@
 -- What a call of `run` does, in eight parts. Outcomes are spoken of where the shelf tells its files, and the bytes of out
 -- and err where these tell them.
-use Rattle.std.specs.Prelude.{◌≡◌, ◌≢◌, ℕ, Bool, true, false, List, [], ◌∷◌, ◌++◌, Option, Some, None, IfSome, MatchOption}
+use Rattle.std.specs.Prelude.{◌≡◌, ◌≢◌, ℕ, Bool, true, false, ◌⊎◌, List, [], ◌∷◌, ◌++◌, Option, Some, None, IfSome, MatchOption}
 use Rattle.xc_base.specs.Shelves.{Told, Shelved, HasRisen, has_risen}
-use Rattle.xc_base.specs.Sinks.{Sunk, AddsWhole, AddsPart, AddsFront, AddsNothing}
+use Rattle.xc_base.specs.Sinks.{Sunk, AddsWhole, AddsPart, AddsFront, AddsNothing, IsCalm}
 use Rattle.xc_base.specs.declared.shelf.File.{File}
 use Rattle.xc_top.specs.Outcomes.{Event, Ends, Loading, Outcome, Absent, Refusal, Served, always, IsCourse, IsOutcome, IsReached}
 use Rattle.xc_top.specs.Requests.{request_of}
@@ -42,10 +42,24 @@ pub record AnswersRefusal (words : List (List ℕ)) (shelf : Shelved) (old new e
   pub only : status ≡ Refused → ForOutcome words shelf (IsRefusal (λ line. GetsLine line err err_after))
   pub out : status ≡ Refused → AddsNothing old.bytes new.bytes
 
--- Where the status is Done or No, the outcome is served with it, and its whole text is on out.
+-- where each load finds some files, the outcome is served with that status, and out got its whole text
+pub record MayServe (words : List (List ℕ)) (old new : Sunk) (status : Status) : Type 0 where
+  pub moments : ℕ → List File
+  pub text : List ℕ
+  pub served : MatchOption (request_of words) ⊥ (λ request. IsCourse request moments (Ends (Served status text)))
+  pub whole : AddsWhole text old.bytes new.bytes
+
+-- out got the whole text of a served outcome with that status, and counted nothing
+pub record Serves (words : List (List ℕ)) (shelf : Shelved) (old new : Sunk) (status : Status) : Type 0 where
+  pub outcome : ForOutcome words shelf (IsServed (λ s text. (s ≡ status) × AddsWhole text old.bytes new.bytes))
+  pub may : MayServe words old new status
+  pub calm : IsCalm old new
+
+-- Where the status is Done or No, the outcome is served with it, and its whole text is on out, where no put failed. Over a shelf
+-- that tells no files it is so where each load finds some files.
 pub record AnswersService (words : List (List ℕ)) (shelf : Shelved) (old new : Sunk) (status : Status) : Type 0 where
-  pub done : status ≡ Done → ForOutcome words shelf (IsServed (λ s text. (s ≡ Done) × AddsWhole text old.bytes new.bytes))
-  pub no : status ≡ No → ForOutcome words shelf (IsServed (λ s text. (s ≡ No) × AddsWhole text old.bytes new.bytes))
+  pub done : status ≡ Done → Serves words shelf old new Done
+  pub no : status ≡ No → Serves words shelf old new No
 
 -- One load failed, of a name that the course reaches where each load finds some files, and P holds of the name. Where files
 -- are told it is reached over those, and is the one name that joined the failed ones.
@@ -55,6 +69,10 @@ pub record FailedOnce (Course : (ℕ → List File) → Event → Type 0) (shelf
   pub reached : Course moments (Loading name)
   pub told : P name
   pub failed : IfSome shelf.told (λ told. Course (always told.files) (Loading name) × (shelf_after.told ≡ Some (record told { failed = told.failed ++ name ∷ [] })))
+
+-- what a shelf tells stays, or one load failed as above
+abbrev pub KeepsOrFails : ((ℕ → List File) → Event → Type 0) → Shelved → Shelved → Type 0
+KeepsOrFails Course shelf shelf_after = (shelf_after.told ≡ shelf.told) ⊎ FailedOnce Course shelf shelf_after (λ name. Unit {0})
 
 -- Where the status is ReadFault, the shelf's count of faults rose, by one failed load that err's line names, and nothing is
 -- written to out.
@@ -123,8 +141,10 @@ TellsSame None new = new ≡ None
 TellsSame (Some old) None = ⊥
 TellsSame (Some old) (Some new) = (new.files ≡ old.files) × (new.steady ≡ old.steady)
 
--- Err gets the line of the status and nothing else, and the files stay as they were.
+-- Err gets the line of the status and nothing else, and the files stay as they were. The failed names stay too, but for the one name
+-- of a load that is reached, where the status is ReadFault or Memory.
 pub record KeepsTheRest (words : List (List ℕ)) (shelf shelf_after : Shelved) (err err_after : Sunk) (status : Status) : Type 0 where
   pub line : GetsLineOf words err err_after status
   pub files : TellsSame shelf.told shelf_after.told
   pub loads : status ≢ ReadFault → status ≢ Memory → shelf_after.told ≡ shelf.told
+  pub wants : status ≡ Memory → MatchOption (request_of words) (shelf_after.told ≡ shelf.told) (λ request. KeepsOrFails (IsCourse request) shelf shelf_after)

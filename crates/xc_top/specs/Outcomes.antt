@@ -1,21 +1,28 @@
 -- The outcome of a request over files: that of the first of its tasks that refuses, or that loads what is not there.
-use Rattle.std.specs.Prelude.{◌≡◌, ℕ, suc, List, MatchOption, Option, Some, None, ◌⊎◌, nat_lt, if◌then◌else◌}
+use Rattle.std.specs.Prelude.{◌≡◌, ℕ, suc, List, MatchOption, [], ◌∷◌, ◌++◌, map, sum, Option, Some, None, ◌⊎◌, nat_lt, if◌then◌else◌}
 use Rattle.xc_base.specs.Formats.{Row, IsAccepted, IsFirstFault}
 use Rattle.xc_base.specs.Lines.{text_rows}
 use Rattle.xc_base.specs.Shelves.{held}
 use Rattle.xc_base.specs.Text.{text_fault}
 use Rattle.xc_base.specs.declared.fault.FileFault.{FileFault}
-use Rattle.xc_base.specs.declared.fault.FileFault.TheVariants.{NotYet, NoStatement, Repeated, Unknown, Count, Missing}
 use Rattle.xc_base.specs.declared.shelf.File.{File}
 use Rattle.xc_theory.specs.Chains.{IsHeight}
 use Rattle.xc_lattice.specs.LatticeFiles.{LatticeValue, Verdict, Faulty, Unlawful, Lawful, IsVerdict}
 use Rattle.xc_view.specs.ViewFiles.{ViewValue, view_format}
+use Rattle.xc_sigmap.specs.MapFiles.{MapValue, map_format}
+use Rattle.xc_sigmap.specs.declared.parts.Use.{Use}
+use Rattle.xc_product.specs.Heights.{AreHeights}
+use Rattle.xc_merge.specs.Merges.{Merge, Viewpoint, parts_of}
+use Rattle.xc_merge.specs.MergedFrames.{merged_frame}
+use Rattle.xc_merge.specs.Projections.{states_of}
+use Rattle.xc_merge.specs.Faults.{merge_fault}
 use Rattle.xc_ctl.specs.Trees.{Signature}
+use Rattle.xc_ctl.specs.Rounds.{RoundsTable}
 use Rattle.xc_ctl.specs.FormulaFiles.{formula_format}
 use Rattle.xc_ctl.specs.declared.kind.Kind.{Kind}
 use Rattle.xc_top.specs.Requests.{Request, LatticeOf, CheckOf, request_of}
-use Rattle.xc_top.specs.Texts.{lattice_text, broken_text, file_line, broken_line, value_line, not_yet_line, states_line}
-use Rattle.xc_top.specs.Checks.{states_of, state_limit, unknown_value, signature_of, frame_of, AreDenoted, check_text}
+use Rattle.xc_top.specs.Texts.{lattice_text, broken_text, file_line, broken_line, merge_line, states_line}
+use Rattle.xc_top.specs.Checks.{state_limit, signature_of, AreTables, check_text}
 use Rattle.xc_top.specs.declared.status.Status.{Status}
 use Rattle.xc_top.specs.declared.status.Status.TheVariants.{Done, No}
 
@@ -78,6 +85,11 @@ pub record JudgesLattice (name : List ℕ) (rows : List Row) (outcome : Outcome)
   pub judged : IsVerdict rows verdict
   pub comes : ComesOf name verdict outcome
 
+-- The map in a file: where the file has a fault it is refused, and else the work goes on with the map.
+pub data ReadsMap (name : List ℕ) (next : MapValue → (ℕ → List File) → Event → Type 0) (rows : List Row) (moments : ℕ → List File) (event : Event) : Type 0 where
+  faulty : (fault : FileFault) → IsFirstFault map_format rows fault → event ≡ Ends (Refusal (file_line name)) → ReadsMap name next rows moments event
+  accepted : (plan : MapValue) → IsAccepted map_format rows plan → next plan moments event → ReadsMap name next rows moments event
+
 -- The view in a file: where the file has a fault it is refused, and else the work goes on with the view.
 pub data ReadsView (name : List ℕ) (next : ViewValue → (ℕ → List File) → Event → Type 0) (rows : List Row) (moments : ℕ → List File) (event : Event) : Type 0 where
   faulty : (fault : FileFault) → IsFirstFault view_format rows fault → event ≡ Ends (Refusal (file_line name)) → ReadsView name next rows moments event
@@ -95,55 +107,59 @@ pub record ReadsLattice (name : List ℕ) (next : LatticeValue → (ℕ → List
   pub judged : IsVerdict rows verdict
   pub comes : ComesOfLattice name next verdict moments event
 
--- The values of a view: where one is no element of the lattice it is refused, and else the work goes on.
-abbrev pub LooksUp : ViewValue → LatticeValue → ((ℕ → List File) → Event → Type 0) → (ℕ → List File) → Event → Type 0
-LooksUp v l next moments event = MatchOption (unknown_value v l) (next moments event) (λ word. event ≡ Ends (Refusal (value_line v.name word)))
+-- A viewpoint: the file of its view, and then the file of the lattice that the view names.
+abbrev pub LoadsViewpoint : List ℕ → (Viewpoint → (ℕ → List File) → Event → Type 0) → (ℕ → List File) → Event → Type 0
+LoadsViewpoint file next = Opens file (ReadsView file (λ v. Opens v.lattice (ReadsLattice v.lattice (λ l. next (record { view = v; lattice = l })))))
 
--- the line for the fault of a formula file
-abbrev pub formula_line : List ℕ → FileFault → List ℕ
-formula_line name (NotYet number) = not_yet_line name number
-formula_line name (NoStatement number) = file_line name
-formula_line name (Repeated number) = file_line name
-formula_line name (Unknown number) = file_line name
-formula_line name (Count number what found) = file_line name
-formula_line name (Missing part) = file_line name
+-- The viewpoints of some files, one after another, behind those that were found.
+abbrev pub LoadsViewpoints : List (List ℕ) → List Viewpoint → (List Viewpoint → (ℕ → List File) → Event → Type 0) → (ℕ → List File) → Event → Type 0
+LoadsViewpoints [] found next = next found
+LoadsViewpoints (file ∷ files) found next = LoadsViewpoint file (λ p. LoadsViewpoints files (found ++ p ∷ []) next)
+
+-- the files of the viewpoints that a map uses
+abbrev pub files_of : MapValue → List (List ℕ)
+files_of plan = map (λ (u : Use). u.file) plan.uses
+
+-- The merge: where the viewpoints do not merge it is refused, with their first fault, and else the work goes on.
+abbrev pub Merges : Merge → ((ℕ → List File) → Event → Type 0) → (ℕ → List File) → Event → Type 0
+Merges m next moments event = MatchOption (merge_fault m) (next moments event) (λ fault. event ≡ Ends (Refusal (merge_line fault)))
 
 -- The formulas in a file: where the file has a fault it is refused, and else the work goes on with their tables.
 pub data ReadsFormulas (name : List ℕ) (signature : Signature) (next : List (List Kind) → Event → Type 0) (rows : List Row) (event : Event) : Type 0 where
-  faulty : (fault : FileFault) → IsFirstFault (formula_format signature) rows fault → event ≡ Ends (Refusal (formula_line name fault)) → ReadsFormulas name signature next rows event
+  faulty : (fault : FileFault) → IsFirstFault (formula_format signature) rows fault → event ≡ Ends (Refusal (file_line name)) → ReadsFormulas name signature next rows event
   accepted : (tables : List (List Kind)) → IsAccepted (formula_format signature) rows tables → next tables event → ReadsFormulas name signature next rows event
 
 -- the number of states, where there are too many
-abbrev pub states_excess : ViewValue → Option ℕ
-states_excess v = if nat_lt state_limit (states_of v) then Some (states_of v) else None
+abbrev pub states_excess : Merge → Option ℕ
+states_excess m = if nat_lt state_limit (states_of m.plan) then Some (states_of m.plan) else None
 
--- the lattice has a height, the formulas denote functions, and their text is for out
-pub record Reports (v : ViewValue) (l : LatticeValue) (tables : List (List Kind)) (outcome : Outcome) : Type 0 where
-  pub height : ℕ
-  pub functions : List (ℕ → ℕ)
-  pub is_height : IsHeight l.algebra.order height
-  pub denoted : AreDenoted (frame_of v l) tables functions
-  pub served : outcome ≡ Served Done (check_text v l height functions)
+-- the lattices have heights, each formula has a table of what it denotes, and their text is for out
+pub record Reports (m : Merge) (formulas : List (List Kind)) (outcome : Outcome) : Type 0 where
+  pub heights : List ℕ
+  pub tables : List RoundsTable
+  pub are_heights : AreHeights (parts_of m) heights
+  pub are_tables : AreTables (merged_frame m) formulas tables
+  pub served : outcome ≡ Served Done (check_text m (sum heights) formulas tables)
 
 -- The limit of states: where there are too many it is refused, and else the values are for out.
-abbrev pub Evaluates : ViewValue → LatticeValue → List (List Kind) → Event → Type 0
-Evaluates v l tables event = MatchOption (states_excess v) (Ending (Reports v l tables) event) (λ count. event ≡ Ends (Refusal (states_line count)))
+abbrev pub Evaluates : Merge → List (List Kind) → Event → Type 0
+Evaluates m formulas event = MatchOption (states_excess m) (Ending (Reports m formulas) event) (λ count. event ≡ Ends (Refusal (states_line count)))
 
--- the tasks of a check behind those on its lattice
-abbrev pub FormulaTasks : ViewValue → LatticeValue → List ℕ → List Row → (ℕ → List File) → Event → Type 0
-FormulaTasks v l formulas rows moments event = ReadsFormulas formulas (signature_of v l) (Evaluates v l) rows event
+-- the tasks of a check behind the merge
+abbrev pub FormulaTasks : Merge → List ℕ → List Row → (ℕ → List File) → Event → Type 0
+FormulaTasks m formulas rows moments event = ReadsFormulas formulas (signature_of m) (Evaluates m) rows event
 
-abbrev pub ValueTasks : ViewValue → List ℕ → LatticeValue → (ℕ → List File) → Event → Type 0
-ValueTasks v formulas l = LooksUp v l (Opens formulas (FormulaTasks v l formulas))
+-- those behind its viewpoints, and those behind its map
+abbrev pub MergeTasks : MapValue → List ℕ → List Viewpoint → (ℕ → List File) → Event → Type 0
+MergeTasks plan formulas found = Merges (record { plan = plan; viewpoints = found }) (Opens formulas (FormulaTasks (record { plan = plan; viewpoints = found }) formulas))
 
--- the tasks of a check behind those on its view
-abbrev pub LatticeTasks : List ℕ → ViewValue → (ℕ → List File) → Event → Type 0
-LatticeTasks formulas v = Opens v.lattice (ReadsLattice v.lattice (ValueTasks v formulas))
+abbrev pub ViewpointTasks : List ℕ → MapValue → (ℕ → List File) → Event → Type 0
+ViewpointTasks formulas plan = LoadsViewpoints (files_of plan) [] (MergeTasks plan formulas)
 
 -- The course of a request: its tasks in their order.
 abbrev pub IsCourse : Request → (ℕ → List File) → Event → Type 0
 IsCourse (LatticeOf name) = Opens name (λ rows moments. Ending (JudgesLattice name rows))
-IsCourse (CheckOf view formulas) = Opens view (ReadsView view (LatticeTasks formulas))
+IsCourse (CheckOf sigmap formulas) = Opens sigmap (ReadsMap sigmap (ViewpointTasks formulas))
 
 -- the outcome of words over files; words that are no request have none
 abbrev pub IsOutcome : List (List ℕ) → List File → Outcome → Type 0

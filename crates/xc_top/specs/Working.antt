@@ -1,21 +1,25 @@
 -- What the parts of `run` do. No public clause rests on these words.
-use Rattle.std.specs.Prelude.{◌≡◌, ◌≤◌, ℕ, List, [], ◌∷◌, ◌++◌, Option, option_map, Some, None, IsSome, IfSome, Result, Ok, Err}
-use Rattle.xc_base.specs.Formats.{Row, IsFirstFault}
+use Rattle.std.specs.Prelude.{◌≡◌, ◌≤◌, ◌⊎◌, ℕ, List, [], ◌∷◌, ◌++◌, Option, option_map, Some, None, IsSome, IfSome, MatchOption, Result, Ok, Err}
+use Rattle.xc_base.specs.Formats.{Row, Format, IsAccepted, IsFirstFault}
 use Rattle.xc_base.specs.Lines.{text_rows}
 use Rattle.xc_base.specs.Text.{text_fault}
 use Rattle.xc_base.specs.declared.fault.FileFault.{FileFault}
 use Rattle.xc_lattice.specs.LatticeFiles.{LatticeValue, Verdict, Faulty, Unlawful, Lawful, IsVerdict}
-use Rattle.xc_view.specs.ViewFiles.{ViewValue, view_format}
+use Rattle.xc_view.specs.ViewFiles.{view_format}
+use Rattle.xc_merge.specs.Merges.{Merge, Viewpoint}
+use Rattle.xc_merge.specs.Faults.{merge_fault}
+use Rattle.xc_merge.specs.declared.fault.MergeFault.{MergeFault}
+use Rattle.xc_merge.specs.declared.fault.MergeFault.TheVariants.{UnknownValue, UnknownName, NotTotal, Elements, NoInitial, Initial}
+use Rattle.xc_merge.specs.declared.fault.MergeFault.TheVariants as faults
 use Rattle.xc_ctl.specs.Trees.{Signature}
 use Rattle.xc_ctl.specs.FormulaFiles.{formula_format}
 use Rattle.std.specs.String.{string_bytes}
-use Rattle.xc_base.specs.Shelves.{Told, Shelved, HasRisen}
+use Rattle.xc_base.specs.Shelves.{Told, Shelved, IsLoaded, HasRisen}
 use Rattle.xc_base.specs.declared.shelf.File.{File}
-use Rattle.xc_top.specs.Outcomes.{Event, Ends, Outcome, Refusal, Served, always, file_limit, formula_line, IsCourse}
+use Rattle.xc_top.specs.Outcomes.{Event, Ends, Outcome, Refusal, Served, always, file_limit, IsCourse}
 use Rattle.xc_top.specs.Requests.{request_of}
-use Rattle.xc_top.specs.Texts.{read_line, file_line, broken_line, value_line}
-use Rattle.xc_top.specs.Checks.{unknown_value}
-use Rattle.xc_top.specs.Headline.{FailedOnce, ForOutcome, IsServed, IsRefusal, MayRefuse, MayLoad, AddsAtMost, GetsLine}
+use Rattle.xc_top.specs.Texts.{read_line, file_line, broken_line, merge_line, value_line, name_line, total_line, product_line, no_initial_line, initial_line}
+use Rattle.xc_top.specs.Headline.{FailedOnce, KeepsOrFails, ForOutcome, IsRefusal, IsServed, MayRefuse, MayServe, Serves, MayLoad, AddsAtMost, GetsLine}
 use Rattle.xc_top.specs.Asked.{halt_status, halt_line}
 use Rattle.xc_base.specs.Sinks.{Sunk, AddsWhole, AddsPart, AddsNothing}
 use Rattle.xc_top.specs.declared.halt.Halt.{Halt}
@@ -46,32 +50,52 @@ ComesTo P (Err WriteFault) = ⊥
 abbrev pub Comes : ((ℕ → List File) → Event → Type 0) → Result Answer Halt → Type 0
 Comes Course result = ComesTo (λ outcome. (moments : ℕ → List File) → Course moments (Ends outcome)) result
 
+-- where files are told, the failed names grew by that one
+abbrev pub AddsFailed : List ℕ → Shelved → Shelved → Type 0
+AddsFailed name shelf shelf_after = shelf_after.told ≡ option_map (λ (told : Told). record told { failed = told.failed ++ name ∷ [] }) shelf.told
+
 -- A load failed of that name: its line for err names it, and where files are told so are the failed names.
 pub record FailedAt (name : List ℕ) (shelf shelf_after : Shelved) (line : List ℕ) : Type 0 where
   pub named : line ≡ read_line name
   pub counted : HasRisen shelf.faults shelf_after.faults
-  pub told : shelf_after.told ≡ option_map (λ (told : Told). record told { failed = told.failed ++ name ∷ [] }) shelf.told
+  pub told : AddsFailed name shelf shelf_after
 
 abbrev pub IsLoadHalt : List ℕ → Shelved → Shelved → Halt → Type 0
 IsLoadHalt name shelf shelf_after (ReadFault line) = FailedAt name shelf shelf_after (string_bytes line)
-IsLoadHalt name shelf shelf_after Memory = Unit {0}
+IsLoadHalt name shelf shelf_after Memory = (shelf_after.told ≡ shelf.told) ⊎ AddsFailed name shelf shelf_after
 IsLoadHalt name shelf shelf_after Words = ⊥
 IsLoadHalt name shelf shelf_after (Refused line) = ⊥
 IsLoadHalt name shelf shelf_after WriteFault = ⊥
 
--- where each load finds some files, the course ends with a refusal with that line
-pub record CanRefuse (Course : (ℕ → List File) → Event → Type 0) (line : List ℕ) : Type 0 where
+-- where each load finds some files, the course ends with that outcome
+pub record CanEnd (Course : (ℕ → List File) → Event → Type 0) (outcome : Outcome) : Type 0 where
   pub moments : ℕ → List File
-  pub refused : Course moments (Ends (Refusal line))
+  pub ended : Course moments (Ends outcome)
 
--- what became of a course: where files are told, an answer or a refusal is its end
+-- the same, and where files are told the course over them does
+abbrev pub EndsWith : ((ℕ → List File) → Event → Type 0) → Shelved → Outcome → Type 0
+EndsWith Course shelf outcome = CanEnd Course outcome × IfSome shelf.told (λ told. Course (always told.files) (Ends outcome))
+
+-- what became of a course: an answer or a refusal is its end, and a load that failed is one that it reaches
 abbrev pub IsPrepared : ((ℕ → List File) → Event → Type 0) → Shelved → Shelved → Result Answer Halt → Type 0
-IsPrepared Course shelf shelf_after (Ok answer) = IfSome shelf.told (λ told. Course (always told.files) (Ends (outcome_of answer)))
-IsPrepared Course shelf shelf_after (Err (Refused line)) = CanRefuse Course (string_bytes line) × IfSome shelf.told (λ told. Course (always told.files) (Ends (Refusal (string_bytes line))))
+IsPrepared Course shelf shelf_after (Ok answer) = EndsWith Course shelf (outcome_of answer)
+IsPrepared Course shelf shelf_after (Err (Refused line)) = EndsWith Course shelf (Refusal (string_bytes line))
 IsPrepared Course shelf shelf_after (Err (ReadFault line)) = HasRisen shelf.faults shelf_after.faults × FailedOnce Course shelf shelf_after (λ name. string_bytes line ≡ read_line name)
-IsPrepared Course shelf shelf_after (Err Memory) = Unit {0}
+IsPrepared Course shelf shelf_after (Err Memory) = KeepsOrFails Course shelf shelf_after
 IsPrepared Course shelf shelf_after (Err Words) = ⊥
 IsPrepared Course shelf shelf_after (Err WriteFault) = ⊥
+
+-- a halt that became of a course
+abbrev pub IsHalted : ((ℕ → List File) → Event → Type 0) → Shelved → Shelved → Halt → Type 0
+IsHalted Course shelf shelf_after halt = IsPrepared Course shelf shelf_after (Err halt)
+
+-- a halt that is an end of the course, whatever the loads behind it find
+abbrev pub Stops : ((ℕ → List File) → Event → Type 0) → Halt → Type 0
+Stops Course halt = Comes Course (Err halt)
+
+-- nothing is done behind something
+abbrev pub nothing : {X : Type 0} → X → (ℕ → List File) → Event → Type 0
+nothing x moments event = ⊥
 
 -- writing stopped: out has a front of the text that lacks something
 abbrev pub IsWriteHalt : List ℕ → Sunk → Sunk → Halt → Type 0
@@ -89,12 +113,12 @@ pub record NamesLoad (words : List (List ℕ)) (line : List ℕ) : Type 0 where
 
 -- what serving words did: the request, its outcome, and what out got
 abbrev pub IsWorked : List (List ℕ) → Shelved → Shelved → Sunk → Sunk → Result Passed Halt → Type 0
-IsWorked words shelf shelf_after old new (Ok passed) = IsSome (request_of words) × ForOutcome words shelf (IsServed (λ status text. (status ≡ passed_status passed) × AddsWhole text old.bytes new.bytes))
+IsWorked words shelf shelf_after old new (Ok passed) = IsSome (request_of words) × Serves words shelf old new (passed_status passed)
 IsWorked words shelf shelf_after old new (Err Words) = (request_of words ≡ None) × AddsNothing old.bytes new.bytes
 IsWorked words shelf shelf_after old new (Err (Refused line)) = IsSome (request_of words) × MayRefuse words (string_bytes line) × ForOutcome words shelf (IsRefusal (λ l. string_bytes line ≡ l)) × AddsNothing old.bytes new.bytes
 IsWorked words shelf shelf_after old new (Err (ReadFault line)) = IsSome (request_of words) × NamesLoad words (string_bytes line) × HasRisen shelf.faults shelf_after.faults × IfSome (request_of words) (λ request. FailedOnce (IsCourse request) shelf shelf_after (λ name. string_bytes line ≡ read_line name)) × AddsNothing old.bytes new.bytes
 IsWorked words shelf shelf_after old new (Err WriteFault) = IsSome (request_of words) × HasRisen old.faults new.faults × ForOutcome words shelf (IsServed (λ status text. AddsPart text old.bytes new.bytes))
-IsWorked words shelf shelf_after old new (Err Memory) = ForOutcome words shelf (AddsAtMost old.bytes new.bytes) × (request_of words ≡ None → AddsNothing old.bytes new.bytes)
+IsWorked words shelf shelf_after old new (Err Memory) = ForOutcome words shelf (AddsAtMost old.bytes new.bytes) × (request_of words ≡ None → AddsNothing old.bytes new.bytes) × MatchOption (request_of words) (shelf_after.told ≡ shelf.told) (λ request. KeepsOrFails (IsCourse request) shelf shelf_after)
 
 -- but where a load failed, and for want of memory, the shelf tells what it told before
 abbrev pub LeavesShelf : {X : Type 0} → Option Told → Option Told → Result X Halt → Type 0
@@ -140,11 +164,26 @@ IsRefusalHalt P Words = ⊥
 IsRefusalHalt P (ReadFault line) = ⊥
 IsRefusalHalt P WriteFault = ⊥
 
--- the rows have a first fault, and the line is that of the file
-pub record IsViewRefusal (name : List ℕ) (rows : List Row) (line : List ℕ) : Type 0 where
-  pub fault : FileFault
-  pub first : IsFirstFault view_format rows fault
-  pub told : line ≡ file_line name
+-- a text that is cut to rows of which P holds
+pub record IsRead {X : Type 0} (P : List Row → X → Type 0) (bytes : List ℕ) (x : X) : Type 0 where
+  pub rows : List Row
+  pub cut : IsCut bytes rows
+  pub read : P rows x
+
+-- the file of a name that was loaded, and that holds such a text
+pub record IsFile {X : Type 0} (P : List Row → X → Type 0) (told : Option Told) (name : List ℕ) (x : X) : Type 0 where
+  pub bytes : List ℕ
+  pub loaded : IsLoaded told name file_limit bytes
+  pub text : IsRead P bytes x
+
+-- the rows of a lattice that breaks no law
+abbrev pub IsLawfulFile : List Row → LatticeValue → Type 0
+IsLawfulFile rows l = IsVerdict rows (Lawful l)
+
+-- the files of a viewpoint
+pub record IsViewpoint (told : Option Told) (file : List ℕ) (p : Viewpoint) : Type 0 where
+  pub view_file : IsFile (IsAccepted view_format) told file p.view
+  pub lattice_file : IsFile IsLawfulFile told p.view.lattice p.lattice
 
 -- the line for a lattice file that is not used
 abbrev pub IsRefusedVerdict : List ℕ → Verdict → List ℕ → Type 0
@@ -152,19 +191,29 @@ IsRefusedVerdict name (Faulty fault) line = line ≡ file_line name
 IsRefusedVerdict name (Unlawful law names) line = line ≡ broken_line name law names
 IsRefusedVerdict name (Lawful l) line = ⊥
 
+-- the line is that of a fault, which is not want of memory
+abbrev pub IsMergeLine : MergeFault → List ℕ → Type 0
+IsMergeLine (UnknownValue viewpoint value) line = line ≡ value_line viewpoint value
+IsMergeLine (UnknownName viewpoint name) line = line ≡ name_line viewpoint name
+IsMergeLine (NotTotal viewpoint name) line = line ≡ total_line viewpoint name
+IsMergeLine (Elements count) line = line ≡ product_line count
+IsMergeLine NoInitial line = line ≡ no_initial_line
+IsMergeLine (Initial count) line = line ≡ initial_line count
+IsMergeLine faults.Memory line = ⊥
+
+-- the viewpoints have a fault, and the line is its
+pub record IsMergeRefusal (m : Merge) (line : List ℕ) : Type 0 where
+  pub fault : MergeFault
+  pub first : merge_fault m ≡ Some fault
+  pub told : line ≡ merge_line fault
+
+-- the rows have a first fault, and the line is that of the file
+pub record IsFaultRefusal {S V : Type 0} (format : Format S V) (name : List ℕ) (rows : List Row) (line : List ℕ) : Type 0 where
+  pub fault : FileFault
+  pub first : IsFirstFault format rows fault
+  pub told : line ≡ file_line name
+
 pub record IsLatticeRefusal (name : List ℕ) (rows : List Row) (line : List ℕ) : Type 0 where
   pub verdict : Verdict
   pub judged : IsVerdict rows verdict
   pub told : IsRefusedVerdict name verdict line
-
--- a value is no element, and the line names it
-pub record IsValueRefusal (v : ViewValue) (l : LatticeValue) (line : List ℕ) : Type 0 where
-  pub word : List ℕ
-  pub unknown : unknown_value v l ≡ Some word
-  pub told : line ≡ value_line v.name word
-
--- the rows have a first fault, and the line is its
-pub record IsFormulaRefusal (name : List ℕ) (signature : Signature) (rows : List Row) (line : List ℕ) : Type 0 where
-  pub fault : FileFault
-  pub first : IsFirstFault (formula_format signature) rows fault
-  pub told : line ≡ formula_line name fault

@@ -1,231 +1,168 @@
-//! The check of formulas over one view: its files, one after another, and what comes of them.
+//! The check of formulas over a merged machine: its files, one after another, and what comes of them.
 
-ghost use Rattle.std.specs.Prelude.{◌≡◌, None, true, IfOk, IfErr, length};
+ghost use Rattle.std.specs.Prelude.{◌≡◌, ◌≤◌, None, true, IfOk, IfErr, length, map, drop};
 ghost use Rattle.std.specs.List.{list_all};
-ghost use Rattle.std.specs.String.{string_bytes};
+ghost use Rattle.xc_alg.specs.Products.{product};
 ghost use Rattle.xc_base.specs.Formats.{IsAccepted};
 ghost use Rattle.xc_base.specs.Lines.{rows_in};
-ghost use Rattle.xc_lattice.specs.LatticeFiles.{IsVerdict};
-ghost use Rattle.xc_lattice.specs.LatticeFiles.Verdict.{Lawful};
-ghost use Rattle.xc_lattice.specs.Values.{value_of as lattice_of};
-ghost use Rattle.xc_view.specs.ViewFiles.{view_format};
-ghost use Rattle.xc_view.specs.Views.{value_of as view_of};
+ghost use Rattle.xc_sigmap.specs.Maps.{value_of as map_of};
+ghost use Rattle.xc_merge.specs.Merges.{parts_of};
+ghost use Rattle.xc_merge.specs.Merging.{merge_in, viewpoint_of};
+ghost use Rattle.xc_merge.specs.Faults.{merge_fault};
+ghost use Rattle.xc_machine.specs.Machines.{merge_of};
 ghost use Rattle.xc_ctl.specs.FormulaFiles.{formula_format};
 ghost use Rattle.xc_ctl.specs.Formulas.{nodes_in};
 ghost use Rattle.xc_ctl.specs.Tables.{is_table_in};
-ghost use Rattle.xc_top.specs.Checks.{unknown_value, signature_of, prop_names};
+ghost use Rattle.xc_top.specs.Checks.{signature_of};
 ghost use Rattle.xc_top.specs.Headline.{TellsSame};
-ghost use Rattle.xc_top.specs.Outcomes.{formula_line, Cuts, Opens, Evaluates, FormulaTasks, IsCourse, LatticeTasks, ReadsLattice, ReadsView, ValueTasks, Ends};
+ghost use Rattle.xc_top.specs.Outcomes.{Cuts, Ends, Evaluates, FormulaTasks, IsCourse, LoadsViewpoints, MergeTasks, Opens, files_of};
 ghost use Rattle.xc_top.specs.Requests.{CheckOf};
-ghost use Rattle.xc_top.specs.Working.{Comes, ComesTo, IsFormulaRefusal, IsLatticeRefusal, IsPrepared, IsRefusalHalt, IsValueRefusal, IsViewRefusal, LeavesShelf};
+ghost use Rattle.xc_top.specs.Working.{Comes, ComesTo, IsFaultRefusal, IsMergeRefusal, IsPrepared, IsRefusalHalt, LeavesShelf};
 
 use crate::answer::Answer;
+use crate::files::{load_map, load_viewpoint};
 use crate::halt::Halt;
 use crate::load::{cut, load};
-use crate::lookup::{count, unknown};
 use crate::report::{read_tables, report};
 use crate::text;
-use std::alloc::{AllocError, Global};
-use xc_base::{FileFault, Lines, Shelf, Stop};
+use std::alloc::Global;
+use xc_base::{Lines, List, Shelf, Stop};
 use xc_ctl::Formulas;
-use xc_lattice::{LatFault, Lattice};
+use xc_lattice::Lattice;
+use xc_machine::Machine;
+use xc_sigmap::SigMap;
 use xc_view::View;
 
 /// How many states may be evaluated.
 const STATE_LIMIT: u32 = 4_096;
 
-/// The view of a file that is cut into lines.
-fn read_view(alloc: Global, name: &str, lines: &Lines) -> Result<View, Halt>
-    ensures read { IfOk result (λ v. IsAccepted view_format (rows_in lines.now) (view_of v)) }
-    ensures stopped { IfErr result (IsRefusalHalt (IsViewRefusal name.now (rows_in lines.now))) }
-{
-    match xc_view::read(alloc, lines) {
-        Ok(view) => Ok(view),
-        Err(Stop::File(_)) => Err(Halt::Refused(text::refused_file(alloc, name)?)),
-        Err(Stop::Memory) => Err(Halt::Memory),
-    }
-}
-
-/// The lattice of a file that is cut into lines.
-#[tactic(auto, using(crate::proofs::Checking::lattice_faulty, crate::proofs::Checking::lattice_broken))]
-fn read_lattice(alloc: Global, name: &str, lines: &Lines) -> Result<Lattice, Halt>
-    ensures read { IfOk result (λ l. IsVerdict (rows_in lines.now) (Lawful (lattice_of l))) }
-    ensures stopped { IfErr result (IsRefusalHalt (IsLatticeRefusal name.now (rows_in lines.now))) }
-{
-    match xc_lattice::read(alloc, lines) {
-        Ok(lattice) => Ok(lattice),
-        Err(LatFault::Broken { law, elements }) => Err(Halt::Refused(text::refused_broken(
-            alloc, name, law, &elements,
-        )?)),
-        Err(LatFault::File(_)) => Err(Halt::Refused(text::refused_file(alloc, name)?)),
-        Err(LatFault::Memory) => Err(Halt::Memory),
-    }
-}
-
-/// Looks up the values of a view in its lattice.
-fn look_up(alloc: Global, view: &View, lattice: &Lattice) -> Result<(), Halt>
-    ensures found { IfOk result (λ done. unknown_value (view_of view.now) (lattice_of lattice.now) ≡ None) }
-    ensures stopped { IfErr result (IsRefusalHalt (IsValueRefusal (view_of view.now) (lattice_of lattice.now))) }
-{
-    match unknown(view, lattice) {
-        None => Ok(()),
-        Some(word) => Err(Halt::Refused(text::refused_value(
-            alloc,
-            view.name().as_str(),
-            word.as_str(),
-        )?)),
-    }
-}
-
-/// The line for the fault of a formula file.
-fn refused_formulas(alloc: Global, name: &str, fault: &FileFault) -> Result<String, AllocError>
-    ensures { IfOk result (λ t. string_bytes t ≡ formula_line name.now fault.now) }
-{
-    match fault {
-        FileFault::NotYet { line } => text::refused_not_yet(alloc, name, *line),
-        _ => text::refused_file(alloc, name),
-    }
-}
-
 /// The formulas of a file that is cut into lines.
 fn read_formulas(
     alloc: Global,
-    view: &View,
-    lattice: &Lattice,
+    machine: &Machine,
     name: &str,
     lines: &Lines,
 ) -> Result<Formulas, Halt>
-    ensures read { IfOk result (λ fs. IsAccepted (formula_format (signature_of (view_of view.now) (lattice_of lattice.now))) (rows_in lines.now) (nodes_in fs)) }
-    ensures range { IfOk result (λ fs. list_all (is_table_in (length (lattice_of lattice.now).names) (length (prop_names (view_of view.now)))) (nodes_in fs) ≡ true) }
-    ensures stopped { IfErr result (IsRefusalHalt (IsFormulaRefusal name.now (signature_of (view_of view.now) (lattice_of lattice.now)) (rows_in lines.now))) }
+    ensures read { IfOk result (λ fs. IsAccepted (formula_format (signature_of (merge_of machine.now))) (rows_in lines.now) (nodes_in fs)) }
+    ensures range { IfOk result (λ fs. list_all (is_table_in (product (parts_of (merge_of machine.now))).size (length (merge_of machine.now).plan.props)) (nodes_in fs) ≡ true) }
+    ensures stopped { IfErr result (IsRefusalHalt (IsFaultRefusal (formula_format (signature_of (merge_of machine.now))) name.now (rows_in lines.now))) }
 {
-    match read_tables(alloc, view, lattice, lines) {
+    match read_tables(alloc, machine, lines) {
         Ok(formulas) => Ok(formulas),
-        Err(Stop::File(fault)) => Err(Halt::Refused(refused_formulas(alloc, name, &fault)?)),
+        Err(Stop::File(_)) => Err(Halt::Refused(text::refused_file(alloc, name)?)),
         Err(Stop::Memory) => Err(Halt::Memory),
     }
 }
 
 /// The values of formulas, where there are not too many states.
 #[tactic(auto, using(crate::proofs::Checking::evaluated, crate::proofs::Checking::too_many))]
-fn evaluate(
-    alloc: Global,
-    view: &View,
-    lattice: &Lattice,
-    formulas: &Formulas,
-) -> Result<Answer, Halt>
-    requires known { unknown_value (view_of view.now) (lattice_of lattice.now) ≡ None }
-    requires range { list_all (is_table_in (length (lattice_of lattice.now).names) (length (prop_names (view_of view.now)))) (nodes_in formulas.now) ≡ true }
-    ensures { ComesTo (λ outcome. Evaluates (view_of view.now) (lattice_of lattice.now) (nodes_in formulas.now) (Ends outcome)) result }
+fn evaluate(alloc: Global, machine: &Machine, formulas: &Formulas) -> Result<Answer, Halt>
+    requires { list_all (is_table_in (product (parts_of (merge_of machine.now))).size (length (merge_of machine.now).plan.props)) (nodes_in formulas.now) ≡ true }
+    ensures { ComesTo (λ outcome. Evaluates (merge_of machine.now) (nodes_in formulas.now) (Ends outcome)) result }
 {
-    let count = count(view);
+    let count = machine.states();
     if count > STATE_LIMIT {
         return Err(Halt::Refused(text::refused_states(alloc, count)?));
     }
-    report(alloc, view, lattice, formulas)
+    report(alloc, machine, formulas)
 }
 
 /// What comes of a formula file of these bytes.
 #[tactic(auto, using(crate::proofs::Checking::formulas_not_cut, crate::proofs::Checking::formulas_refused, crate::proofs::Checking::formulas_evaluated))]
 fn with_formulas(
     alloc: Global,
-    view: &View,
-    lattice: &Lattice,
+    machine: &Machine,
     name: &str,
     bytes: &[u8],
 ) -> Result<Answer, Halt>
-    requires known { unknown_value (view_of view.now) (lattice_of lattice.now) ≡ None }
-    ensures { Comes (Cuts name.now (FormulaTasks (view_of view.now) (lattice_of lattice.now) name.now) bytes.now) result }
+    ensures { Comes (Cuts name.now (FormulaTasks (merge_of machine.now) name.now) bytes.now) result }
 {
     let lines = cut(alloc, name, bytes)?;
-    let formulas = read_formulas(alloc, view, lattice, name, &lines)?;
-    evaluate(alloc, view, lattice, &formulas)
+    let formulas = read_formulas(alloc, machine, name, &lines)?;
+    evaluate(alloc, machine, &formulas)
 }
 
 /// Loads the formulas of a check.
-#[tactic(auto, using(crate::proofs::Checking::formulas_loaded, crate::proofs::Checking::formulas_not_loaded))]
 fn load_formulas<S: Shelf>(
     alloc: Global,
     shelf: &mut S,
-    view: &View,
-    lattice: &Lattice,
+    machine: &Machine,
     formulas: &str,
 ) -> Result<Answer, Halt>
-    requires known { unknown_value (view_of view.now) (lattice_of lattice.now) ≡ None }
     ensures kept { LeavesShelf (S.seen shelf.old).told (S.seen shelf.new).told result }
-    ensures prepared { IsPrepared (Opens formulas.now (FormulaTasks (view_of view.now) (lattice_of lattice.now) formulas.now)) (S.seen shelf.old) (S.seen shelf.new) result }
+    ensures prepared { IsPrepared (Opens formulas.now (FormulaTasks (merge_of machine.now) formulas.now)) (S.seen shelf.old) (S.seen shelf.new) result }
     ensures files { TellsSame (S.seen shelf.old).told (S.seen shelf.new).told }
 {
     let bytes = load(alloc, shelf, formulas)?;
-    with_formulas(alloc, view, lattice, formulas, &bytes)
+    with_formulas(alloc, machine, formulas, &bytes)
 }
 
-/// Goes on with the lattice of a file of these bytes.
-#[tactic(auto, using(crate::proofs::Checking::lattice_not_cut, crate::proofs::Checking::lattice_refused, crate::proofs::Checking::value_refused, crate::proofs::Checking::lattice_goes_on))]
-fn with_lattice<S: Shelf>(
+/// The machine that the viewpoints of a map merge to.
+fn machine_of(
+    alloc: Global,
+    sigmap: SigMap,
+    views: List<(View, Lattice)>,
+) -> Result<Machine, Halt>
+    requires { length views ≡ length (map_of sigmap).uses }
+    ensures merged { IfOk result (λ m. (merge_of m ≡ merge_in sigmap views) × (merge_fault (merge_in sigmap views) ≡ None)) }
+    ensures stopped { IfErr result (IsRefusalHalt (IsMergeRefusal (merge_in sigmap views))) }
+{
+    match Machine::of(alloc, sigmap, views) {
+        Ok(machine) => Ok(machine),
+        Err(fault) => Err(Halt::Refused(text::refused_merge(alloc, &fault)?)),
+    }
+}
+
+/// Merges the viewpoints of a map, and goes on with the formulas.
+fn merge<S: Shelf>(
     alloc: Global,
     shelf: &mut S,
-    view: &View,
-    bytes: &[u8],
+    sigmap: SigMap,
+    views: List<(View, Lattice)>,
     formulas: &str,
 ) -> Result<Answer, Halt>
+    requires { length views ≡ length (map_of sigmap).uses }
     ensures kept { LeavesShelf (S.seen shelf.old).told (S.seen shelf.new).told result }
-    ensures prepared { IsPrepared (Cuts (view_of view.now).lattice (ReadsLattice (view_of view.now).lattice (ValueTasks (view_of view.now) formulas.now)) bytes.now) (S.seen shelf.old) (S.seen shelf.new) result }
+    ensures prepared { IsPrepared (MergeTasks (map_of sigmap) formulas.now (map viewpoint_of views)) (S.seen shelf.old) (S.seen shelf.new) result }
     ensures files { TellsSame (S.seen shelf.old).told (S.seen shelf.new).told }
 {
-    let name = view.lattice().as_str();
-    let lines = cut(alloc, name, bytes)?;
-    let lattice = read_lattice(alloc, name, &lines)?;
-    look_up(alloc, view, &lattice)?;
-    load_formulas(alloc, shelf, view, &lattice, formulas)
+    let machine = machine_of(alloc, sigmap, views)?;
+    load_formulas(alloc, shelf, &machine, formulas)
 }
 
-/// Loads the lattice of a view.
-#[tactic(auto, using(crate::proofs::Checking::lattice_loaded, crate::proofs::Checking::lattice_not_loaded))]
-fn load_lattice<S: Shelf>(
+/// Loads the viewpoints of a map behind those that are loaded, and merges them.
+fn load_viewpoints<S: Shelf>(
     alloc: Global,
     shelf: &mut S,
-    view: &View,
+    sigmap: SigMap,
+    mut views: List<(View, Lattice)>,
     formulas: &str,
 ) -> Result<Answer, Halt>
+    requires { length views ≤ length (map_of sigmap).uses }
     ensures kept { LeavesShelf (S.seen shelf.old).told (S.seen shelf.new).told result }
-    ensures prepared { IsPrepared (LatticeTasks formulas.now (view_of view.now)) (S.seen shelf.old) (S.seen shelf.new) result }
+    ensures prepared { IsPrepared (LoadsViewpoints (drop (length views) (files_of (map_of sigmap))) (map viewpoint_of views) (MergeTasks (map_of sigmap) formulas.now)) (S.seen shelf.old) (S.seen shelf.new) result }
     ensures files { TellsSame (S.seen shelf.old).told (S.seen shelf.new).told }
 {
-    let bytes = load(alloc, shelf, view.lattice().as_str())?;
-    with_lattice(alloc, shelf, view, &bytes, formulas)
+    let place = views.len();
+    if place == sigmap.uses().len() {
+        return merge(alloc, shelf, sigmap, views, formulas);
+    }
+    let viewpoint = load_viewpoint(alloc, shelf, sigmap.uses().get(place).file.as_str())?;
+    views.push(viewpoint)?;
+    load_viewpoints(alloc, shelf, sigmap, views, formulas)
 }
 
-/// Goes on with the view of a file of these bytes.
-#[tactic(auto, using(crate::proofs::Checking::view_not_cut, crate::proofs::Checking::view_refused, crate::proofs::Checking::view_goes_on))]
-fn with_view<S: Shelf>(
-    alloc: Global,
-    shelf: &mut S,
-    name: &str,
-    bytes: &[u8],
-    formulas: &str,
-) -> Result<Answer, Halt>
-    ensures kept { LeavesShelf (S.seen shelf.old).told (S.seen shelf.new).told result }
-    ensures prepared { IsPrepared (Cuts name.now (ReadsView name.now (LatticeTasks formulas.now)) bytes.now) (S.seen shelf.old) (S.seen shelf.new) result }
-    ensures files { TellsSame (S.seen shelf.old).told (S.seen shelf.new).told }
-{
-    let lines = cut(alloc, name, bytes)?;
-    let view = read_view(alloc, name, &lines)?;
-    load_lattice(alloc, shelf, &view, formulas)
-}
-
-/// Evaluates the formulas of a file over the view of another.
-#[tactic(auto, using(crate::proofs::Checking::check_loaded, crate::proofs::Checking::check_not_loaded))]
+/// Evaluates the formulas of a file over the machine that the map in another merges.
 pub(crate) fn check<S: Shelf>(
     alloc: Global,
     shelf: &mut S,
-    view: &str,
+    sigmap: &str,
     formulas: &str,
 ) -> Result<Answer, Halt>
     ensures kept { LeavesShelf (S.seen shelf.old).told (S.seen shelf.new).told result }
-    ensures prepared { IsPrepared (IsCourse (CheckOf view.now formulas.now)) (S.seen shelf.old) (S.seen shelf.new) result }
+    ensures prepared { IsPrepared (IsCourse (CheckOf sigmap.now formulas.now)) (S.seen shelf.old) (S.seen shelf.new) result }
     ensures files { TellsSame (S.seen shelf.old).told (S.seen shelf.new).told }
 {
-    let bytes = load(alloc, shelf, view)?;
-    with_view(alloc, shelf, view, &bytes, formulas)
+    let plan = load_map(alloc, shelf, sigmap)?;
+    load_viewpoints(alloc, shelf, plan, List::new(alloc), formulas)
 }

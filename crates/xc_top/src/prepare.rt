@@ -78,6 +78,6 @@ pub(crate) fn prepare<S: Shelf>(
 {
     match request {
         Request::Lattice { file } => lattice(alloc, shelf, file),
-        Request::Check { view, formulas } => check(alloc, shelf, view, formulas),
+        Request::Check { sigmap, formulas } => check(alloc, shelf, sigmap, formulas),
     }
 }

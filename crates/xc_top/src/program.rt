@@ -1,6 +1,6 @@
 ghost use Rattle.std.specs.Prelude.{◌≡◌, map, IfOk, IfErr, OnOk};
 ghost use Rattle.std.specs.String.{string_bytes};
-ghost use Rattle.xc_base.specs.Sinks.{AddsWhole};
+ghost use Rattle.xc_base.specs.Sinks.{AddsWhole, IsCalm};
 ghost use Rattle.xc_top.specs.Headline.{AnswersNoRequest, AnswersRefusal, AnswersService, AnswersReadFault, AnswersWriteFault, AnswersMemory, IsComplete, KeepsTheRest, TellsSame, GetsLine};
 ghost use Rattle.xc_top.specs.Working.{IsWriteHalt, IsWorked, LeavesShelf};
 
@@ -16,6 +16,7 @@ use xc_base::{Shelf, Sink, SinkFault, put_all};
 fn deliver<W: Sink>(out: &mut W, answer: &Answer) -> Result<Passed, Halt>
     ensures passed { IfOk result (λ p. p ≡ answer.now.passed) }
     ensures whole { OnOk result (AddsWhole (string_bytes answer.now.text) (W.seen out.old).bytes (W.seen out.new).bytes) }
+    ensures calm { OnOk result (IsCalm (W.seen out.old) (W.seen out.new)) }
     ensures stopped { IfErr result (IsWriteHalt (string_bytes answer.now.text) (W.seen out.old) (W.seen out.new)) }
 {
     match put_all(out, answer.text.as_bytes()) {
@@ -65,7 +66,7 @@ pub fn run<S: Shelf, W: Sink, E: Sink>(
     ensures words { AnswersNoRequest (map string_bytes words.now.items) (W.seen out.old) (W.seen out.new) result }
     // A refusal is that of the outcome, with its line.
     ensures refusal { AnswersRefusal (map string_bytes words.now.items) (S.seen shelf.old) (W.seen out.old) (W.seen out.new) (E.seen err.old) (E.seen err.new) result }
-    // Done and No only where the outcome is served so, with its whole text.
+    // Done and No only where the outcome is served so, with its whole text, and no put failed.
     ensures service { AnswersService (map string_bytes words.now.items) (S.seen shelf.old) (W.seen out.old) (W.seen out.new) result }
     // ReadFault only where one load failed.
     ensures read_fault { AnswersReadFault (map string_bytes words.now.items) (S.seen shelf.old) (S.seen shelf.new) (W.seen out.old) (W.seen out.new) (E.seen err.old) (E.seen err.new) result }
@@ -75,7 +76,7 @@ pub fn run<S: Shelf, W: Sink, E: Sink>(
     ensures memory { AnswersMemory (map string_bytes words.now.items) (S.seen shelf.old) (W.seen out.old) (W.seen out.new) result }
     // Where nothing fails the status is that of the outcome.
     ensures complete { IsComplete (map string_bytes words.now.items) (S.seen shelf.old) (S.seen shelf.new) (W.seen out.old) (W.seen out.new) result }
-    // Err gets the line of the status, and the files stay.
+    // Err gets the line of the status, and the files stay, and the failed names too but for that of one load.
     ensures rest { KeepsTheRest (map string_bytes words.now.items) (S.seen shelf.old) (S.seen shelf.new) (E.seen err.old) (E.seen err.new) result }
 {
     match serve(alloc, words.as_slice(), shelf, out) {

@@ -9,8 +9,8 @@ ghost use Rattle.xc_top.specs.Asked.{asked};
 pub(crate) enum Request<'a> {
     /// To judge the lattice in that file.
     Lattice { file: &'a str },
-    /// To evaluate formulas over a view.
-    Check { view: &'a str, formulas: &'a str },
+    /// To evaluate formulas over the machine that a map merges.
+    Check { sigmap: &'a str, formulas: &'a str },
 }
 
 /// What the words ask for, if they are a request.
@@ -21,8 +21,8 @@ pub(crate) fn requested(words: &[String]) -> Option<Request<'_>>
         [mode, file] if mode.as_str() == "lattice" => Some(Request::Lattice {
             file: file.as_str(),
         }),
-        [mode, view, formulas] if mode.as_str() == "check" => Some(Request::Check {
-            view: view.as_str(),
+        [mode, sigmap, formulas] if mode.as_str() == "check" => Some(Request::Check {
+            sigmap: sigmap.as_str(),
             formulas: formulas.as_str(),
         }),
         _ => None,

@@ -5,11 +5,13 @@ ghost use Rattle.std.specs.List.{flat_map};
 ghost use Rattle.std.specs.String.{string_bytes};
 ghost use Rattle.xc_base.specs.Names.{name_at};
 ghost use Rattle.xc_lattice.specs.Values.{value_of};
-ghost use Rattle.xc_top.specs.Texts.{lattice_text, broken_text, law_word, file_line, broken_line, value_line, not_yet_line, states_line, read_line};
+ghost use Rattle.xc_top.specs.Texts.{lattice_text, broken_text, law_word, line, file_line, broken_line, states_line, read_line};
+ghost use Rattle.xc_top.specs.Working.{IsMergeLine};
 
 use std::alloc::{AllocError, Global};
-use xc_base::{List, Word};
+use xc_base::{List, Memory as NoMemory, Word};
 use xc_lattice::{Lattice, Law};
+use xc_merge::MergeFault;
 
 /// The name of an element.
 fn name_of(lattice: &Lattice, element: u8) -> &str
@@ -113,27 +115,42 @@ pub(crate) fn refused_broken(
     Ok(text)
 }
 
-/// The line for a value that is no element of the lattice of a view.
-pub(crate) fn refused_value(alloc: Global, view: &str, word: &str) -> Result<String, AllocError>
-    ensures { IfOk result (λ t. string_bytes t ≡ value_line view.now word.now) }
+/// The line for what a viewpoint has wrong, behind a word for how.
+fn refused_viewpoint(
+    alloc: Global,
+    label: &str,
+    viewpoint: &Word,
+    word: &Word,
+) -> Result<String, AllocError>
+    ensures { IfOk result (λ t. string_bytes t ≡ line (label.now ++ viewpoint.now ++ 32 ∷ word.now)) }
 {
     let mut text = String::new(alloc);
-    push_both(&mut text, "refused value ", view)?;
-    push_both(&mut text, " ", word)?;
+    push_both(&mut text, label, viewpoint.as_str())?;
+    push_both(&mut text, " ", word.as_str())?;
     text.push_str("\n")?;
     Ok(text)
 }
 
-/// The line for a form of formulas that is not read yet.
-pub(crate) fn refused_not_yet(alloc: Global, name: &str, line: u32) -> Result<String, AllocError>
-    ensures { IfOk result (λ t. string_bytes t ≡ not_yet_line name.now line) }
+/// The line for viewpoints that do not merge.
+pub(crate) fn refused_merge(alloc: Global, fault: &MergeFault) -> Result<String, NoMemory>
+    ensures { IfOk result (λ t. IsMergeLine fault.now (string_bytes t)) }
 {
-    let number = format!(in alloc; "{line}")?;
-    let mut text = String::new(alloc);
-    push_both(&mut text, "refused notyet ", name)?;
-    push_both(&mut text, " ", number.as_str())?;
-    text.push_str("\n")?;
-    Ok(text)
+    let line = match fault {
+        MergeFault::UnknownValue { viewpoint, value } => {
+            refused_viewpoint(alloc, "refused value ", viewpoint, value)?
+        }
+        MergeFault::UnknownName { viewpoint, name } => {
+            refused_viewpoint(alloc, "refused name ", viewpoint, name)?
+        }
+        MergeFault::NotTotal { viewpoint, name } => {
+            refused_viewpoint(alloc, "refused total ", viewpoint, name)?
+        }
+        MergeFault::Elements { count } => format!(in alloc; "refused product {count}\n")?,
+        MergeFault::NoInitial => String::from_str(alloc, "refused noinitial\n")?,
+        MergeFault::Initial { count } => format!(in alloc; "refused initial {count}\n")?,
+        MergeFault::Memory => return Err(NoMemory),
+    };
+    Ok(line)
 }
 
 /// The line for too many states.

@@ -1,0 +1,110 @@
+-- What tables tell of the nodes of formulas over a merged machine, and the text of it.
+use Rattle.std.proofs.Common.{◌≡◌, ℕ, zero, suc, ◌+◌, ◌-◌, ◌<◌, ◌≤◌, Bool, true, false, cond, List, [], ◌∷◌, ◌++◌, length, map, get_or, take, slice_index, refl, sym, ◌∙◌, ap, subst, append_assoc, append-nil, arith}
+use Rattle.std.specs.List.{filter, flat_map, list_all, range_with_len, slice_index_or}
+use Rattle.std.proofs.lemmas.List.{take_more, map-append, length-map}
+use Rattle.std.proofs.lemmas.List.Sums.{AllPass-from_list_all}
+use Rattle.xc_theory.specs.Lattices.{size}
+use Rattle.xc_theory.specs.Codes.{digits, AreDigits}
+use Rattle.xc_theory.proofs.Codes.{digits_are_in_range}
+use Rattle.xc_alg.specs.Products.{product, sizes}
+use Rattle.xc_expr.specs.Variables.{sizes_of}
+use Rattle.xc_product.specs.Heights.{AreHeights}
+use Rattle.xc_merge.specs.Merges.{Merge, Viewpoint, parts_of, names_of_parts}
+use Rattle.xc_merge.specs.Projections.{states_of, row_of}
+use Rattle.xc_merge.specs.MergedFrames.{merged_frame, initials_of, is_merged_initial}
+use Rattle.xc_ctl.specs.Rounds.{RoundsTable, IsTableFor}
+use Rattle.xc_ctl.specs.Tables.{node_at}
+use Rattle.xc_ctl.specs.declared.kind.Kind.{Kind}
+use Rattle.xc_top.specs.Checks.{block_text, blocks_text, AreTables}
+use Rattle.xc_top.specs.Saying.{AddsBlock, AddsBlocks}
+use Rattle.xc_top.proofs.Lattices.{IsNamed, AreNamed}
+
+-- what a test picks of the numbers from one on is below their end
+one_picked : (p : ℕ → Bool) (k n i s : ℕ) (states : List ℕ) (b : Bool) → p k ≡ b → 1 ≤ n → i < length (filter p (k ∷ states)) → s ≡ get_or (filter p (k ∷ states)) i s
+    → ((j : ℕ) → j < length (filter p states) → s ≡ get_or (filter p states) j s → s < k + n) → s < k + n
+one_picked p k n zero s states true e some low is more = let first : s ≡ k = is ∙ ap (λ (b : Bool). get_or (cond b (k ∷ filter p states) (filter p states)) 0 s) e in omega arith
+one_picked p k n (suc i) s states true e some low is more =
+    let shorter : i < length (filter p states) = let all : suc i < length (cond true (k ∷ filter p states) (filter p states)) = subst (λ (b : Bool). suc i < length (cond b (k ∷ filter p states) (filter p states))) e low in omega arith in
+    more i shorter (is ∙ ap (λ (b : Bool). get_or (cond b (k ∷ filter p states) (filter p states)) (suc i) s) e)
+one_picked p k n i s states false e some low is more =
+    more i (subst (λ (b : Bool). i < length (cond b (k ∷ filter p states) (filter p states))) e low) (is ∙ ap (λ (b : Bool). get_or (cond b (k ∷ filter p states) (filter p states)) i s) e)
+
+picked_below : (p : ℕ → Bool) (k n i s : ℕ) → i < length (filter p (range_with_len k n)) → s ≡ get_or (filter p (range_with_len k n)) i s → s < k + n
+picked_below p k zero i s low is = absurd (omega arith)
+picked_below p k (suc n) i s low is =
+    one_picked p k (suc n) i s (range_with_len (k + 1) n) (p k) refl (omega arith) low is
+    (λ j below at. let h : s < k + 1 + n = picked_below p (k + 1) n j s below at in omega arith)
+
+-- initial states are states
+pub initial_below : (m : Merge) (states : List ℕ) (i s : ℕ) → states ≡ initials_of m → i < length states → s ≡ get_or states i s → s < states_of m.plan
+unfolding initials_of
+initial_below m states i s e low is =
+    let h : s < 0 + states_of m.plan = picked_below (is_merged_initial m) 0 (states_of m.plan) i s (subst (λ (xs : List ℕ). i < length xs) e low) (is ∙ ap (λ (xs : List ℕ). get_or xs i s) e) in omega arith
+
+-- a table has the nodes of its formula, the states of the machine, and elements as values
+module _ (m : Merge) (nodes : List Kind) (t : RoundsTable) (is : IsTableFor (merged_frame m) nodes t) where
+  pub node_there : (i : ℕ) → i < length nodes → i < t.nodes
+  node_there i low = omega (arith, is.same_nodes)
+
+  pub state_there : (s : ℕ) → s < states_of m.plan → s < t.states
+  unfolding merged_frame
+  state_there s low = omega (arith, is.same_states)
+
+  pub value_there : (i s : ℕ) → i < length nodes → s < states_of m.plan → t.at i s < (product (parts_of m)).size
+  unfolding merged_frame
+  value_there i s low here = (is.denoted.node i low).fixpoint.in_range s here
+
+-- the names of a part's elements are as many as its size
+names_at : (found : List Viewpoint) (part : ℕ) (names : List (List ℕ)) → AreNamed found → part < length found → names ≡ get_or (map (λ (p : Viewpoint). p.lattice.names) found) part names → length names ≡ slice_index (sizes (map (λ (p : Viewpoint). p.lattice.algebra) found)) part
+names_at [] part names are low is = absurd (omega arith)
+names_at (p ∷ found) zero names are low is = ap (λ (n : List (List ℕ)). length n) is ∙ are.0.named
+names_at (p ∷ found) (suc part) names are low is = names_at found part names are.1 (omega arith) is
+
+-- so a digit has a name
+pub digit_named : (m : Merge) (part digit : ℕ) (all : List (List (List ℕ))) (names : List (List ℕ)) → AreNamed m.viewpoints → all ≡ names_of_parts m → part < length all → names ≡ get_or all part names → digit < slice_index (sizes (parts_of m)) part → digit < length names
+digit_named m part digit all names are same low is within =
+    let there : part < length m.viewpoints = omega (arith, ap length same, length-map m.viewpoints (λ (p : Viewpoint). p.lattice.names)) in
+    let many : length names ≡ slice_index (sizes (parts_of m)) part = names_at m.viewpoints part names are there (is ∙ ap (λ (xs : List (List (List ℕ))). get_or xs part names) same) in
+    omega arith
+
+-- a value has as many digits as there are parts
+digit_count : (ns row : List ℕ) → AreDigits ns row → length row ≡ length ns
+digit_count [] [] h = refl
+digit_count [] (x ∷ row) h = absurd h
+digit_count (n ∷ ns) [] h = absurd h
+digit_count (n ∷ ns) (x ∷ row) h = ap suc (digit_count ns row h.1)
+
+pub digits_many : (m : Merge) (element : ℕ) → element < (product (parts_of m)).size → length (digits (sizes (parts_of m)) element) ≡ length (names_of_parts m)
+unfolding product
+digits_many m element low =
+    digit_count (sizes (parts_of m)) (digits (sizes (parts_of m)) element) (digits_are_in_range (sizes (parts_of m)) element low)
+    ∙ length-map (parts_of m) size ∙ length-map m.viewpoints (λ (p : Viewpoint). p.lattice.algebra) ∙ sym (length-map m.viewpoints (λ (p : Viewpoint). p.lattice.names))
+
+-- one block more
+tables_more : (m : Merge) (formulas : List (List Kind)) (tables : List RoundsTable) (nodes : List Kind) (t : RoundsTable) → AreTables (merged_frame m) formulas tables → IsTableFor (merged_frame m) nodes t → AreTables (merged_frame m) (formulas ++ nodes ∷ []) (tables ++ t ∷ [])
+tables_more m [] [] nodes t are is = (is, tt)
+tables_more m [] (u ∷ tables) nodes t are is = absurd are
+tables_more m (some ∷ formulas) [] nodes t are is = absurd are
+tables_more m (some ∷ formulas) (u ∷ tables) nodes t are is = (are.0, tables_more m formulas tables nodes t are.1 is)
+
+blocks_more : (m : Merge) (k : ℕ) (formulas : List (List Kind)) (tables : List RoundsTable) (nodes : List Kind) (t : RoundsTable) (number : ℕ) → k + length formulas ≡ number → AreTables (merged_frame m) formulas tables
+    → blocks_text m k (formulas ++ nodes ∷ []) (tables ++ t ∷ []) ≡ blocks_text m k formulas tables ++ block_text m number nodes t
+blocks_more m k [] [] nodes t number e are = let same : k ≡ number = omega arith in rw same (append-nil (block_text m number nodes t))
+blocks_more m k [] (u ∷ tables) nodes t number e are = absurd are
+blocks_more m k (some ∷ formulas) [] nodes t number e are = absurd are
+blocks_more m k (some ∷ formulas) (u ∷ tables) nodes t number e are =
+    ap (λ (more : List ℕ). block_text m k some u ++ more) (blocks_more m (k + 1) formulas tables nodes t number (omega arith) are.1)
+    ∙ sym (append_assoc (block_text m k some u) (blocks_text m (k + 1) formulas tables) (block_text m number nodes t))
+
+-- no formula, and one formula more
+pub blocks_begun : (m : Merge) (text : List ℕ) → AddsBlocks m [] text text
+blocks_begun m text = record { tables = []; are_tables = tt; said = sym (append-nil text) }
+
+pub block_added : (m : Merge) (formulas more : List (List Kind)) (nodes : List Kind) (number : ℕ) (old text new : List ℕ) → more ≡ formulas ++ nodes ∷ [] → 1 + length formulas ≡ number → AddsBlocks m formulas old text → AddsBlock m number nodes text new → AddsBlocks m more old new
+block_added m formulas more nodes number old text new e count so_far one = record {
+  tables = so_far.tables ++ one.table ∷ [];
+  are_tables = subst (λ (all : List (List Kind)). AreTables (merged_frame m) all (so_far.tables ++ one.table ∷ [])) (sym e) (tables_more m formulas so_far.tables nodes one.table so_far.are_tables one.is_table);
+  said = one.said ∙ ap (λ (front : List ℕ). front ++ block_text m number nodes one.table) so_far.said ∙ append_assoc old (blocks_text m 1 formulas so_far.tables) (block_text m number nodes one.table)
+      ∙ ap (λ (back : List ℕ). old ++ back) (sym (blocks_more m 1 formulas so_far.tables nodes one.table number count so_far.are_tables))
+      ∙ ap (λ (all : List (List Kind)). old ++ blocks_text m 1 all (so_far.tables ++ one.table ∷ [])) (sym e);
+}

@@ -1,7 +1,0 @@
-use Rattle.std.proofs.Common.{◌≡◌, map, take}
-use Rattle.xc_lattice.specs.Values.{value_of}
-use Rattle.xc_top.specs.Framing.{line_code}
-use Rattle.xc_top.proofs.elements.line_codes.Given as goal
-
-abbrev pub invariant-loop-l : goal.invariant-loop-l
-invariant-loop-l l = l.codes ≡ map (line_code (value_of l.lattice).names) (take l.l-index l.lines)

@@ -1,3 +1,0 @@
-EX lit                  # a step to where the lamp is on
-EX EX lit
-lit -> AX safe
