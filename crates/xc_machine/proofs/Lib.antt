@@ -12,4 +12,4 @@ pub mod Giving
 pub mod Coding
 pub mod Encoding
 pub mod Framing
-pub mod Framed
+pub mod AsFrame

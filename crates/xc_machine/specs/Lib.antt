@@ -9,4 +9,4 @@ pub mod Gathered
 pub mod Digits
 pub mod Machines
 pub mod Places
-pub mod Framed
+pub mod AsFrame

@@ -7,7 +7,7 @@ use xc_product::Product;
 impl Framed for Machine {
     ghost use Rattle.xc_merge.specs.MergedFrames.{merged_frame};
     ghost use Rattle.xc_machine.specs.Machines.{merge_of};
-    ghost use Rattle.xc_machine.specs.Framed.{is_framed};
+    ghost use Rattle.xc_machine.specs.AsFrame.{is_framed};
 
     ghost frame = { λ m. merged_frame (merge_of m) };
 

@@ -1,11 +1,11 @@
 //! The merged machine.
 
-ghost use Rattle.std.specs.Prelude.{◌≡◌, ◌≤◌, ◌<◌, length};
+ghost use Rattle.std.specs.Prelude.{◌≡◌, ◌≤◌, ◌<◌, ℕ, length};
 ghost use Rattle.xc_theory.specs.Codes.{total};
-ghost use Rattle.xc_alg.specs.Products.{sizes};
+ghost use Rattle.xc_alg.specs.Products.{product as algebra_of, sizes};
 ghost use Rattle.xc_product.specs.Products.{parts_of as factors_of};
 ghost use Rattle.xc_merge.specs.Merges.{parts_of, names_of_parts};
-ghost use Rattle.xc_merge.specs.MergedFrames.{initials_of};
+ghost use Rattle.xc_merge.specs.MergedFrames.{initials_of, merged_frame};
 ghost use Rattle.xc_machine.specs.Gathered.{merged_of};
 
 use crate::merged::Merged;
@@ -32,6 +32,9 @@ pub struct Machine {
     ghost begins: { initials ≡ initials_of (merged_of merged) },
     ghost some: { 1 ≤ length initials },
     ghost few: { length initials ≤ 4096 },
+    // Both follow from the tables. They are kept since an `impl` shows a trait's laws by what the value keeps.
+    ghost steps: { (s t : ℕ) → s < (merged_frame (merged_of merged)).states → t < (merged_frame (merged_of merged)).states → (merged_frame (merged_of merged)).relation s t < (algebra_of (merged_frame (merged_of merged)).parts).size },
+    ghost values: { (p s : ℕ) → p < (merged_frame (merged_of merged)).props → s < (merged_frame (merged_of merged)).states → (merged_frame (merged_of merged)).prop p s < (algebra_of (merged_frame (merged_of merged)).parts).size },
 }
 
 impl Machine {
@@ -43,7 +46,7 @@ impl Machine {
     ghost use Rattle.xc_sigmap.specs.Maps.{value_of as map_of};
     ghost use Rattle.xc_merge.specs.Faults.{IsRefusal, all_faults, merge_fault};
     ghost use Rattle.xc_merge.specs.Merges.{viewpoint_at};
-    ghost use Rattle.xc_merge.specs.MergedFrames.{is_merged_initial, merged_frame};
+    ghost use Rattle.xc_merge.specs.MergedFrames.{is_merged_initial};
     ghost use Rattle.xc_merge.specs.Merging.{merge_in};
     ghost use Rattle.xc_merge.specs.Projections.{projection, states_of};
     ghost use Rattle.xc_machine.specs.Machines.{merge_of};
@@ -64,7 +67,7 @@ impl Machine {
     }
 
     /// The machine of viewpoints without faults.
-    #[tactic(auto, using(std::proofs::lemmas::Grind::common_steps, crate::proofs::Merging::no_fault))]
+    #[tactic(auto, using(std::proofs::lemmas::Grind::common_steps, crate::proofs::Merging::no_fault, crate::proofs::AsFrame::steps_in, crate::proofs::AsFrame::values_in))]
     fn merge(alloc: Global, merged: Merged) -> Result<Machine, MergeFault>
         requires { all_faults (merged_of merged) ≡ [] }
         ensures ok { IfOk result (λ m. (merge_of m ≡ merged_of merged) × (merge_fault (merged_of merged) ≡ None)) }
