@@ -156,10 +156,10 @@ block_is m vars first w depth count row j b same low aligned within size_is row_
       some = omega arith;
       within = end;
       same = λ s from to.
-        let here : s < states_of m.plan = omega arith in
-        let quotients : s / total (drop depth sizes) ≡ first / total (drop depth sizes) = subst (λ (n : ℕ). s / n ≡ first / n) size_is (same_quotient first s w aligned some from to) in
-        let shares : SharesFront depth (row_of m.plan s) row = record { same = λ k below. front sizes depth k s first (omega arith) deep below quotients ∙ ap (λ (r : List ℕ). slice_index r k) (sym row_is) } in
-        means (is_merged_initial m s) (subst (λ (n : ℕ). IsRight j (list_all (λ v. is_initial_for m.plan s v (viewpoint_at m v)) (range_with_len 0 n))) count_is (are.right s here shares));
+          let here : s < states_of m.plan = omega arith in
+          let quotients : s / total (drop depth sizes) ≡ first / total (drop depth sizes) = subst (λ (n : ℕ). s / n ≡ first / n) size_is (same_quotient first s w aligned some from to) in
+          let shares : SharesFront depth (row_of m.plan s) row = record { same = λ k below. front sizes depth k s first (omega arith) deep below quotients ∙ ap (λ (r : List ℕ). slice_index r k) (sym row_is) } in
+          means (is_merged_initial m s) (subst (λ (n : ℕ). IsRight j (list_all (λ v. is_initial_for m.plan s v (viewpoint_at m v)) (range_with_len 0 n))) count_is (are.right s here shares));
     }
 
 -- one state alone
@@ -217,7 +217,7 @@ found_more m first block old new is before count_is listed =
     record {
       count_is = count_is ∙ added block.initial (initials_below m first) old.count first block.size before.count_is ∙ ap length (sym (below_next m first block is));
       listed = λ few.
-        listed few ∙ ap (λ (xs : List ℕ). xs ++ cond block.initial (range_with_len first block.size) []) (before.listed (fewer block.initial old.count block.size (subst (λ (n : ℕ). n ≤ 4096) count_is few))) ∙ sym (below_next m first block is);
+          listed few ∙ ap (λ (xs : List ℕ). xs ++ cond block.initial (range_with_len first block.size) []) (before.listed (fewer block.initial old.count block.size (subst (λ (n : ℕ). n ≤ 4096) count_is few))) ∙ sym (below_next m first block is);
     }
 
 -- no more states are found than were looked at

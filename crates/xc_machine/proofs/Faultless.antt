@@ -111,8 +111,8 @@ faultless plan v p e =
       stutters = none_missing p.lattice.names (stutter_words plan v) (map_nil (UnknownValue (name_of plan v)) (missing p.lattice.names (stutter_words plan v)) four.1);
       vars = none_left (is_fed plan v) p.view.vars (map_nil (λ (d : Domain). NotTotal (name_of plan v) d.name) (filter (λ (d : Domain). not (is_fed plan v d)) p.view.vars) five.1);
       props = λ k low.
-        there_by (line_of plan v k) (none_in_range (λ j. is_none (line_of plan v j)) 0 (length plan.props) k
-        (map_nil (λ j. NotTotal (name_of plan v) (name_at plan.props j)) (filter (λ j. is_none (line_of plan v j)) (range_with_len 0 (length plan.props))) six.1) (omega arith) (omega arith));
+          there_by (line_of plan v k) (none_in_range (λ j. is_none (line_of plan v j)) 0 (length plan.props) k
+          (map_nil (λ j. NotTotal (name_of plan v) (name_at plan.props j)) (filter (λ j. is_none (line_of plan v j)) (range_with_len 0 (length plan.props))) six.1) (omega arith) (omega arith));
     }
 
 -- of all faults those of one viewpoint

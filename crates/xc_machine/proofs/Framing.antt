@@ -59,8 +59,8 @@ values_below m f h =
     codes_are_in_range (sizes (parts_of m)) (for_each m f)
     (digits_from (sizes (parts_of m)) (for_each m f) (length-map-range_with_len (λ v. f v (viewpoint_at m v)) 0 (length m.viewpoints) ∙ sym parts)
     (λ k low.
-      let under : k < length m.viewpoints = omega arith in
-      rw (get_or-map-range_with_len (λ v. f v (viewpoint_at m v)) 0 (length m.viewpoints) k k 0 under (omega arith), part_size m k under) (h k under)))
+    let under : k < length m.viewpoints = omega arith in
+    rw (get_or-map-range_with_len (λ v. f v (viewpoint_at m v)) 0 (length m.viewpoints) k k 0 under (omega arith), part_size m k under) (h k under)))
 
 -- what a viewpoint gives is an element
 join_below : (p : Viewpoint) (words : List (List ℕ)) → IsGood p.lattice → join_in p words < size p.lattice.algebra
@@ -85,6 +85,6 @@ framed sigmap views known =
       lawful = lawful_views views;
       steps = λ s t low there. values_below m (step_digit (map_of sigmap) s t) (λ v under. join_below (viewpoint_at m v) (step_values (map_of sigmap) v (viewpoint_at m v) s t) (lattices_good sigmap views v under));
       values = λ k s low there.
-        values_below m (prop_digit (map_of sigmap) k s)
-        (λ v under. by_below (map_of sigmap) s v (viewpoint_at m v) (line_of (map_of sigmap) v k) (lattices_good sigmap views v under) (λ c e. known v c k under e));
+          values_below m (prop_digit (map_of sigmap) k s)
+          (λ v under. by_below (map_of sigmap) s v (viewpoint_at m v) (line_of (map_of sigmap) v k) (lattices_good sigmap views v under) (λ c e. known v c k under e));
     }

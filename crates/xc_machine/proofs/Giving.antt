@@ -16,10 +16,10 @@ pub given_more : (m : Merge) (f : ℕ → Viewpoint → ℕ) (v digit : ℕ) (ro
 given_more m f v digit row low are one =
     record {
       given = λ w under.
-        elim (cases_eq w v) [
-          | inl same ↦ subst (λ (n : ℕ). IsDigit m f n (get_or (set row v digit) n 0)) (sym same) (subst (IsDigit m f v) (sym (get_or-set_same row v digit 0 low)) one)
-          | inr apart ↦ subst (IsDigit m f w) (sym (get_or-set_other row v w digit 0 apart)) (are.given w (omega arith))
-        ];
+          elim (cases_eq w v) [
+            | inl same ↦ subst (λ (n : ℕ). IsDigit m f n (get_or (set row v digit) n 0)) (sym same) (subst (IsDigit m f v) (sym (get_or-set_same row v digit 0 low)) one)
+            | inr apart ↦ subst (IsDigit m f w) (sym (get_or-set_other row v w digit 0 apart)) (are.given w (omega arith))
+          ];
     }
 
 pub none_given : (m : Merge) (f : ℕ → Viewpoint → ℕ) (row : List ℕ) → AreGiven m f 0 row
@@ -50,5 +50,5 @@ module _ (m : Merge) (f : ℕ → Viewpoint → ℕ) (row : List ℕ) (count v :
       let parts : length (sizes (parts_of m)) ≡ count = length-map (parts_of m) size ∙ length-map m.viewpoints (λ (p : Viewpoint). p.lattice.algebra) ∙ sym count_is in
       digits_from (sizes (parts_of m)) (take count row) (length-take-le count row room ∙ sym parts)
       (λ k low.
-        let under : k < count = omega arith in
-        rw (get_or-take count row k 0 under, part_size m k (omega arith)) (are.given k (omega arith)).below)
+      let under : k < count = omega arith in
+      rw (get_or-take count row k 0 under, part_size m k (omega arith)) (are.given k (omega arith)).below)

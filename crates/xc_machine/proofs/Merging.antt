@@ -48,15 +48,15 @@ tabled_more sigmap views v tables pair t low is are one =
     record {
       count = length_push tables t ∙ ap (λ (n : ℕ). n + 1) are.count;
       tabled = λ w other u under at there.
-        elim (cases_eq w v) [
-          | inl same ↦
-              let u_same : t ≡ u = sym (get_or_push tables t u v are.count) ∙ ap (λ (n : ℕ). get_or (tables ++ t ∷ []) n u) (sym same) ∙ sym there in
-              let other_at : other ≡ get_or views v other = at ∙ ap (λ (n : ℕ). get_or views n other) same in
-              let pair_same : pair ≡ other = get_or_read views v pair low is other ∙ sym other_at in
-              subst (λ (n : ℕ). AreTables (map_of sigmap) n (viewpoint_of other) u) (sym same)
-              (subst (λ (q : View × Lattice). AreTables (map_of sigmap) v (viewpoint_of q) u) pair_same (subst (λ (s : Tables). AreTables (map_of sigmap) v (viewpoint_of pair) s) u_same one))
-          | inr apart ↦ are.tabled w other u (omega arith) at (there ∙ get_or_append_left tables (t ∷ []) u w (omega (arith, are.count)))
-        ];
+          elim (cases_eq w v) [
+            | inl same ↦
+                let u_same : t ≡ u = sym (get_or_push tables t u v are.count) ∙ ap (λ (n : ℕ). get_or (tables ++ t ∷ []) n u) (sym same) ∙ sym there in
+                let other_at : other ≡ get_or views v other = at ∙ ap (λ (n : ℕ). get_or views n other) same in
+                let pair_same : pair ≡ other = get_or_read views v pair low is other ∙ sym other_at in
+                subst (λ (n : ℕ). AreTables (map_of sigmap) n (viewpoint_of other) u) (sym same)
+                (subst (λ (q : View × Lattice). AreTables (map_of sigmap) v (viewpoint_of q) u) pair_same (subst (λ (s : Tables). AreTables (map_of sigmap) v (viewpoint_of pair) s) u_same one))
+            | inr apart ↦ are.tabled w other u (omega arith) at (there ∙ get_or_append_left tables (t ∷ []) u w (omega (arith, are.count)))
+          ];
     }
 
 pub none_tabled : (sigmap : SigMap) (views : List (View × Lattice)) → AreTabled sigmap views 0 []

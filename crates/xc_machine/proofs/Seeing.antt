@@ -87,9 +87,9 @@ module _ (plan : MapValue) (v : ℕ) (p : Viewpoint) (t : Tables) (row : List �
       record {
         source_in = λ x feed low is. let f = (feed_is x feed low is).1.1 in omega (arith, f.source_is, f.source_in, digits_length (sizes_of plan.vars) row places, sizes_length plan.vars);
         place_in = λ x feed low is.
-          let d = (feed_is x feed low is).0 in
-          let f = (feed_is x feed low is).1.1 in
-          rw f.source_is (omega (arith, place_below plan.vars row (source plan v d) places f.source_in, values_few plan.vars (source plan v d) fit f.source_in));
+            let d = (feed_is x feed low is).0 in
+            let f = (feed_is x feed low is).1.1 in
+            rw f.source_is (omega (arith, place_below plan.vars row (source plan v d) places f.source_in, values_few plan.vars (source plan v d) fit f.source_in));
       }
 
   seen_at : (x : ℕ) → x < length p.view.vars → get_or (map (place_by row) t.feeds) x 0 ≡ get_or (row_seen plan v p row) x 0
@@ -116,7 +116,7 @@ module _ (plan : MapValue) (v : ℕ) (p : Viewpoint) (t : Tables) (row : List �
   pub seen_digits : AreDigits (sizes_of p.view.vars) (row_seen plan v p row)
   seen_digits =
       places_are_digits p.view.vars (place_seen plan v row) (λ x d low is.
-        let there : x < length t.feeds = omega (arith, are.feeds.count) in
-        let feed = item t.feeds x there in
-        let f = are.feeds.fed x d feed.0 low is feed.1 in
-        f.places_in (slice_index row (source plan v d)) (place_below plan.vars row (source plan v d) places f.source_in))
+      let there : x < length t.feeds = omega (arith, are.feeds.count) in
+      let feed = item t.feeds x there in
+      let f = are.feeds.fed x d feed.0 low is feed.1 in
+      f.places_in (slice_index row (source plan v d)) (place_below plan.vars row (source plan v d) places f.source_in))

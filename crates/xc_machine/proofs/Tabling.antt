@@ -79,9 +79,9 @@ module _ (plan : MapValue) (v : ℕ) (d : Domain) (line : SendLine) (places : Li
         source_in = rw source_line low;
         places = λ m under. are m (rw source_line at under) ∙ sym (carried_line m);
         places_in = λ m under.
-          rw (carried_line m)
-          (among_in_range d.values (carried_word plan line m)
-          (all_range_at (λ value. is_among d.values (carried_word plan line value)) 0 (length (values_at plan.vars line.from)) m (all_carried fed) (omega arith) (omega (arith, rw source_line at under))));
+            rw (carried_line m)
+            (among_in_range d.values (carried_word plan line m)
+            (all_range_at (λ value. is_among d.values (carried_word plan line value)) 0 (length (values_at plan.vars line.from)) m (all_carried fed) (omega arith) (omega (arith, rw source_line at under))));
       }
 
 pub feed_none : (plan : MapValue) (v : ℕ) (d : Domain) (feed : Feed) → line_for plan v d.name ≡ None → is_fed plan v d ≡ true → IsFeed plan v d feed
@@ -95,18 +95,18 @@ feeds_more plan v vars feeds x d feed low is are one =
     record {
       count = length_push feeds feed ∙ ap (λ (n : ℕ). n + 1) before ∙ sym all;
       fed = λ k e g under at there.
-        let within : k < x + 1 = omega (arith, all) in
-        let e_is : e ≡ get_or vars k e = at ∙ get_or-take (x + 1) vars k e within in
-        elim (cases_eq k x) [
-          | inl same ↦
-              let e_at : e ≡ get_or vars x e = e_is ∙ ap (λ (n : ℕ). get_or vars n e) same in
-              let d_same : d ≡ e = get_or_read vars x d low is e ∙ sym e_at in
-              let g_same : feed ≡ g = sym (get_or_push feeds feed g x before) ∙ ap (λ (n : ℕ). get_or (feeds ++ feed ∷ []) n g) (sym same) ∙ sym there in
-              subst (λ (y : Domain). IsFeed plan v y g) d_same (subst (λ (y : Feed). IsFeed plan v d y) g_same one)
-          | inr apart ↦
-              let under_x : k < x = omega arith in
-              are.fed k e g (omega (arith, are.count, before)) (e_is ∙ sym (get_or-take x vars k e under_x)) (there ∙ get_or_append_left feeds (feed ∷ []) g k (omega arith))
-        ];
+          let within : k < x + 1 = omega (arith, all) in
+          let e_is : e ≡ get_or vars k e = at ∙ get_or-take (x + 1) vars k e within in
+          elim (cases_eq k x) [
+            | inl same ↦
+                let e_at : e ≡ get_or vars x e = e_is ∙ ap (λ (n : ℕ). get_or vars n e) same in
+                let d_same : d ≡ e = get_or_read vars x d low is e ∙ sym e_at in
+                let g_same : feed ≡ g = sym (get_or_push feeds feed g x before) ∙ ap (λ (n : ℕ). get_or (feeds ++ feed ∷ []) n g) (sym same) ∙ sym there in
+                subst (λ (y : Domain). IsFeed plan v y g) d_same (subst (λ (y : Feed). IsFeed plan v d y) g_same one)
+            | inr apart ↦
+                let under_x : k < x = omega arith in
+                are.fed k e g (omega (arith, are.count, before)) (e_is ∙ sym (get_or-take x vars k e under_x)) (there ∙ get_or_append_left feeds (feed ∷ []) g k (omega arith))
+          ];
     }
 
 pub no_feeds : (plan : MapValue) (v : ℕ) (vars : List Domain) → AreFeeds plan v (take 0 vars) []
@@ -119,7 +119,7 @@ telling_some plan v k p lines line fixed row e is f c =
       told = ap is_some e;
       fixed_is = f ∙ sym (ap (fixed_by p) e);
       counts_are =
-        c ∙ sym (map_map (λ (l : PropValue). counts_for l line.told) prop_value lines) ∙ ap (map (λ (l : PropValue). counts_for l line.told)) is ∙ ap (λ (o : Option Tell). map (λ (l : PropValue). counts_by l o) p.view.props) (sym e);
+          c ∙ sym (map_map (λ (l : PropValue). counts_for l line.told) prop_value lines) ∙ ap (map (λ (l : PropValue). counts_for l line.told)) is ∙ ap (λ (o : Option Tell). map (λ (l : PropValue). counts_by l o) p.view.props) (sym e);
     }
 
 pub telling_none : (plan : MapValue) (v k : ℕ) (p : Viewpoint) (telling : Telling) → line_of plan v k ≡ None → is_some (line_of plan v k) ≡ true → IsTelling plan v p k telling
@@ -131,12 +131,12 @@ tellings_more plan v p k tellings telling are one =
     record {
       count = length_push tellings telling ∙ ap (λ (n : ℕ). n + 1) are.count;
       told = λ i g under there.
-        elim (cases_eq i k) [
-          | inl same ↦
-              let g_same : telling ≡ g = sym (get_or_push tellings telling g k are.count) ∙ ap (λ (n : ℕ). get_or (tellings ++ telling ∷ []) n g) (sym same) ∙ sym there in
-              subst (λ (j : ℕ). IsTelling plan v p j g) (sym same) (subst (IsTelling plan v p k) g_same one)
-          | inr apart ↦ are.told i g (omega arith) (there ∙ get_or_append_left tellings (telling ∷ []) g i (omega (arith, are.count)))
-        ];
+          elim (cases_eq i k) [
+            | inl same ↦
+                let g_same : telling ≡ g = sym (get_or_push tellings telling g k are.count) ∙ ap (λ (n : ℕ). get_or (tellings ++ telling ∷ []) n g) (sym same) ∙ sym there in
+                subst (λ (j : ℕ). IsTelling plan v p j g) (sym same) (subst (IsTelling plan v p k) g_same one)
+            | inr apart ↦ are.told i g (omega arith) (there ∙ get_or_append_left tellings (telling ∷ []) g i (omega (arith, are.count)))
+          ];
     }
 
 pub no_tellings : (plan : MapValue) (v : ℕ) (p : Viewpoint) → AreTellings plan v p 0 []

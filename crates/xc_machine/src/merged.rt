@@ -90,7 +90,15 @@ impl Merged {
         let there = &second[..count];
         let base = tables.base(s == t, here, there);
         let weights = tables.weights.as_slice();
-        step_join(&tables.operations, vars, commands, weights, base, here, there)
+        step_join(
+            &tables.operations,
+            vars,
+            commands,
+            weights,
+            base,
+            here,
+            there,
+        )
     }
 
     /// What a viewpoint gives to a proposition of the map at a state.
@@ -119,7 +127,15 @@ impl Merged {
                 let seen = &places[..count];
                 let marks = tables.marks.as_slice();
                 let counts = telling.counts.as_slice();
-                prop_join(&tables.operations, vars, lines, marks, counts, tables.bottom, seen)
+                prop_join(
+                    &tables.operations,
+                    vars,
+                    lines,
+                    marks,
+                    counts,
+                    tables.bottom,
+                    seen,
+                )
             }
         }
     }

@@ -14,15 +14,20 @@ const TWO: &[u8] = b"lattice two\nelements F T\nbelow F T\nnot F T\nnot T F\n";
 const CHAIN: &[u8] =
     b"lattice chain\nelements F M T\nbelow F M\nbelow M T\nnot F T\nnot M M\nnot T F\n";
 
-const DIAMOND: &[u8] = b"lattice diamond\nelements F N B T\nbelow F N\nbelow F B\nbelow N T\nbelow B T\nnot F T\nnot N N\nnot B B\nnot T F\n";
+const DIAMOND: &[u8] =
+    b"lattice diamond\nelements F N B T\nbelow F N\nbelow F B\nbelow N T\nbelow B T\nnot F T\nnot N N\nnot B B\nnot T F\n";
 
-const ANN: &[u8] = b"view ann\nlattice chain.lat\nvar door shut open\nvar lamp off on\ninit door=shut\nprop lit T when lamp=on\nprop safe T when door=shut\nprop safe M when lamp=on\ncommand enter with T when door=shut do door:=open\ncommand leave with T when door=open do door:=shut\ncommand light with M when door=open&lamp=off do lamp:=on\n";
+const ANN: &[u8] =
+    b"view ann\nlattice chain.lat\nvar door shut open\nvar lamp off on\ninit door=shut\nprop lit T when lamp=on\nprop safe T when door=shut\nprop safe M when lamp=on\ncommand enter with T when door=shut do door:=open\ncommand leave with T when door=open do door:=shut\ncommand light with M when door=open&lamp=off do lamp:=on\n";
 
-const BEN: &[u8] = b"view ben\nlattice diamond.lat\nvar gate closed open\nvar lamp off on\ninit gate=closed\nprop shining T when lamp=on\nprop safe B when gate=open\nprop safe T when gate=closed\ncommand pass with N when true do gate:=next gate\ncommand switch with T when gate=open do lamp:=any\n";
+const BEN: &[u8] =
+    b"view ben\nlattice diamond.lat\nvar gate closed open\nvar lamp off on\ninit gate=closed\nprop shining T when lamp=on\nprop safe B when gate=open\nprop safe T when gate=closed\ncommand pass with N when true do gate:=next gate\ncommand switch with T when gate=open do lamp:=any\n";
 
-const CAT: &[u8] = b"view cat\nlattice two.lat\nvar light dark bright\ninit true\nprop lit T when light=bright\ncommand on with T when light=dark do light:=bright\n";
+const CAT: &[u8] =
+    b"view cat\nlattice two.lat\nvar light dark bright\ninit true\nprop lit T when light=bright\ncommand on with T when light=dark do light:=bright\n";
 
-const HOUSE: &[u8] = b"map house\nuse ann ann.view\nuse ben ben.view\nuse cat cat.view\nvar door shut open\nvar lamp off on\nprop lit\nprop safe\nsend ann door door\nsend ann lamp lamp\nsend ben gate door shut=closed\nsend ben lamp lamp\nsend cat light lamp off=dark on=bright\ntell ann lit lit\ntell ann safe safe\ntell ben lit shining\ntell ben safe safe\ntell cat lit lit\ntell cat safe as T\nstutter cat T\n";
+const HOUSE: &[u8] =
+    b"map house\nuse ann ann.view\nuse ben ben.view\nuse cat cat.view\nvar door shut open\nvar lamp off on\nprop lit\nprop safe\nsend ann door door\nsend ann lamp lamp\nsend ben gate door shut=closed\nsend ben lamp lamp\nsend cat light lamp off=dark on=bright\ntell ann lit lit\ntell ann safe safe\ntell ben lit shining\ntell ben safe safe\ntell cat lit lit\ntell cat safe as T\nstutter cat T\n";
 
 // The views of some files, each with its lattice; what says neither is left out.
 fn views(alloc: Global, files: &[(&[u8], &[u8])]) -> Result<List<(View, Lattice)>, Fail> {
@@ -127,13 +132,19 @@ fn the_house(rt: HostRuntime) -> Result<(), Fail> {
     match merged(alloc, HOUSE, &files)? {
         Some(Ok(machine)) => {
             let steps = steps_told(alloc, &machine)?;
-            assert_eq!(rt; steps.as_str(), "0 1 19 1 true; 0 0 0 19 true; 19 1 6 15 false; 0 19 6 6 false; 0 1 ");
+            assert_eq!(rt;
+                steps.as_str(),
+                "0 1 19 1 true; 0 0 0 19 true; 19 1 6 15 false; 0 19 6 6 false; 0 1 "
+            );
             let lit = atoms_told(alloc, &machine, 0)?;
             assert_eq!(rt; lit.as_str(), "0 23 0 23 ");
             let safe = atoms_told(alloc, &machine, 1)?;
             assert_eq!(rt; safe.as_str(), "23 23 5 13 ");
             let seen = seen_told(alloc, &machine)?;
-            assert_eq!(rt; seen.as_str(), "ann chain 0 1 2 3 0; ben diamond 0 1 2 3 0; cat two 0 1 0 1 1; ");
+            assert_eq!(rt;
+                seen.as_str(),
+                "ann chain 0 1 2 3 0; ben diamond 0 1 2 3 0; cat two 0 1 0 1 1; "
+            );
         }
         _ => assert!(rt; false),
     }

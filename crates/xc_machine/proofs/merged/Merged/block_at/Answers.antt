@@ -48,6 +48,6 @@ pub loop-depth-preserved : goal.loop-depth-preserved
 loop-depth-preserved c =
     ap (λ (n : ℕ). n / c.len-in-loop-depth.result) c.loop-depth.invariant
     ∙ size_next (sizes_of (map_of c.args.self.now.sigmap).vars) c.loop-depth.depth c.len-in-loop-depth.result
-        (c.len-in-loop-depth.ensures ∙ size_at (map_of c.args.self.now.sigmap).vars c.loop-depth.depth c.get.result.now (omega (arith, ap length c.vars-vars.ensures, c.loop-depth-test.true, c.len-depth-end.ensures)) (c.get.ensures ∙ ap (λ (vars : List Domain). get_or vars c.loop-depth.depth c.get.result.now) c.vars-vars.ensures))
-        (omega (arith, sizes_length (map_of c.args.self.now.sigmap).vars, ap length c.vars-vars.ensures, c.loop-depth-test.true, c.len-depth-end.ensures))
-        (omega (arith, c.len-in-loop-depth.ensures, size_some (map_of c.args.self.now.sigmap) c.loop-depth.depth c.get.result.now c.is_sound.ensures (omega (arith, ap length c.vars-vars.ensures, c.loop-depth-test.true, c.len-depth-end.ensures)) (c.get.ensures ∙ ap (λ (vars : List Domain). get_or vars c.loop-depth.depth c.get.result.now) c.vars-vars.ensures)))
+    (c.len-in-loop-depth.ensures ∙ size_at (map_of c.args.self.now.sigmap).vars c.loop-depth.depth c.get.result.now (omega (arith, ap length c.vars-vars.ensures, c.loop-depth-test.true, c.len-depth-end.ensures)) (c.get.ensures ∙ ap (λ (vars : List Domain). get_or vars c.loop-depth.depth c.get.result.now) c.vars-vars.ensures))
+    (omega (arith, sizes_length (map_of c.args.self.now.sigmap).vars, ap length c.vars-vars.ensures, c.loop-depth-test.true, c.len-depth-end.ensures))
+    (omega (arith, c.len-in-loop-depth.ensures, size_some (map_of c.args.self.now.sigmap) c.loop-depth.depth c.get.result.now c.is_sound.ensures (omega (arith, ap length c.vars-vars.ensures, c.loop-depth-test.true, c.len-depth-end.ensures)) (c.get.ensures ∙ ap (λ (vars : List Domain). get_or vars c.loop-depth.depth c.get.result.now) c.vars-vars.ensures)))

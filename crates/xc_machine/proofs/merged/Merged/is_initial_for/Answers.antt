@@ -30,5 +30,5 @@ returns c =
     c.holds_in.ensures ∙ ap (λ (g : Test). holds_at g (take c.len-count.result c.seen-places.result)) c.init.ensures
     ∙ ap (holds_at (view_of c.get-pair.result.now.0).init) (seen_row c.args.self.now.sigmap c.args.self.now.views c.args.v c.get-pair.result.now c.args.row.now c.seen-places.result c.vars-vars.result.now c.len-count.result c.requires.v c.get-pair.ensures c.seen-places.ensures.seen c.vars-vars.ensures c.len-count.ensures)
     ∙ initial_for_is (map_of c.args.self.now.sigmap) c.args.v c.args.s (viewpoint_of c.get-pair.result.now) c.args.row.now c.requires.row
-        (digits_pair c.args.self.now.sigmap c.args.self.now.views c.args.v c.get-pair.result.now c.args.row.now c.requires.v c.get-pair.ensures c.seen-places.ensures.digits)
+    (digits_pair c.args.self.now.sigmap c.args.self.now.views c.args.v c.get-pair.result.now c.args.row.now c.requires.v c.get-pair.ensures c.seen-places.ensures.digits)
     ∙ ap (is_initial_for (map_of c.args.self.now.sigmap) c.args.s c.args.v) (sym (viewpoint_is c.args.self.now.sigmap c.args.self.now.views c.args.v c.get-pair.result.now c.requires.v c.get-pair.ensures))

@@ -52,9 +52,9 @@ returns c =
     let count : c.len-count.result ≡ length c.get-tables.result.now.feeds = c.len-count.ensures ∙ ap length c.vars-vars.ensures ∙ sym are.feeds.count in
     record {
       right = λ s low shares.
-        rw (viewpoint_is c.args.self.now.sigmap c.args.self.now.views c.args.v c.get-pair.result.now c.requires.v c.get-pair.ensures, c.judge.ensures, c.init.ensures)
-        (judged_is (map_of c.args.self.now.sigmap) c.args.v (viewpoint_of c.get-pair.result.now) c.get-tables.result.now c.args.row.now c.args.depth are c.requires.row s _ _ shares
-        (seen_digits (map_of c.args.self.now.sigmap) c.args.v (viewpoint_of c.get-pair.result.now) c.get-tables.result.now _ are (digits_are_in_range (sizes_of (map_of c.args.self.now.sigmap).vars) s low))
-        (seen_row c.args.self.now.sigmap c.args.self.now.views c.args.v c.get-pair.result.now c.args.row.now c.seen-places.result c.vars-vars.result.now c.len-count.result c.requires.v c.get-pair.ensures c.seen-places.ensures.seen c.vars-vars.ensures c.len-count.ensures)
-        (ap (λ (n : ℕ). take n c.known-read.result) count ∙ c.known-read.ensures));
+          rw (viewpoint_is c.args.self.now.sigmap c.args.self.now.views c.args.v c.get-pair.result.now c.requires.v c.get-pair.ensures, c.judge.ensures, c.init.ensures)
+          (judged_is (map_of c.args.self.now.sigmap) c.args.v (viewpoint_of c.get-pair.result.now) c.get-tables.result.now c.args.row.now c.args.depth are c.requires.row s _ _ shares
+          (seen_digits (map_of c.args.self.now.sigmap) c.args.v (viewpoint_of c.get-pair.result.now) c.get-tables.result.now _ are (digits_are_in_range (sizes_of (map_of c.args.self.now.sigmap).vars) s low))
+          (seen_row c.args.self.now.sigmap c.args.self.now.views c.args.v c.get-pair.result.now c.args.row.now c.seen-places.result c.vars-vars.result.now c.len-count.result c.requires.v c.get-pair.ensures c.seen-places.ensures.seen c.vars-vars.ensures c.len-count.ensures)
+          (ap (λ (n : ℕ). take n c.known-read.result) count ∙ c.known-read.ensures));
     }

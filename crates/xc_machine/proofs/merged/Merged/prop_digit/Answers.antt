@@ -93,8 +93,8 @@ returns-in-None-clause-digit c =
     ∙ ap (λ (ws : List ℕ). joined_from (product (lattice_in_any c.get-tables.result.now.operations ∷ [])) c.get-tables.result.now.bottom ws (both c.as_slice-counts.result.now (map (holds_there (take c.len-count.result c.seen-places.result)) c.as_slice-lines.result.now)) 0) c.as_slice-marks.ensures
     ∙ ap (λ (row : List Bool). joined_from (product (lattice_in_any c.get-tables.result.now.operations ∷ [])) c.get-tables.result.now.bottom c.get-tables.result.now.marks (both row (map (holds_there (take c.len-count.result c.seen-places.result)) c.as_slice-lines.result.now)) 0) c.as_slice-counts.ensures
     ∙ lines_is (map_of c.args.self.now.sigmap) c.args.v (viewpoint_of c.get-pair.result.now) c.get-tables.result.now are c.is_good.ensures c.as_slice-lines.result.now c.args.k c.args.s (take c.len-count.result c.seen-places.result) c.get-telling.result.now is
-        (seen_digits (map_of c.args.self.now.sigmap) c.args.v (viewpoint_of c.get-pair.result.now) c.get-tables.result.now _ are (digits_are_in_range (sizes_of (map_of c.args.self.now.sigmap).vars) c.args.s c.requires.s))
-        (seen_row c.args.self.now.sigmap c.args.self.now.views c.args.v c.get-pair.result.now c.args.row.now c.seen-places.result c.vars-vars.result.now c.len-count.result c.requires.v c.get-pair.ensures c.seen-places.ensures.seen c.vars-vars.ensures c.len-count.ensures ∙ ap (row_seen (map_of c.args.self.now.sigmap) c.args.v (viewpoint_of c.get-pair.result.now)) c.requires.row) tells c.in-None.is
+    (seen_digits (map_of c.args.self.now.sigmap) c.args.v (viewpoint_of c.get-pair.result.now) c.get-tables.result.now _ are (digits_are_in_range (sizes_of (map_of c.args.self.now.sigmap).vars) c.args.s c.requires.s))
+    (seen_row c.args.self.now.sigmap c.args.self.now.views c.args.v c.get-pair.result.now c.args.row.now c.seen-places.result c.vars-vars.result.now c.len-count.result c.requires.v c.get-pair.ensures c.seen-places.ensures.seen c.vars-vars.ensures c.len-count.ensures ∙ ap (row_seen (map_of c.args.self.now.sigmap) c.args.v (viewpoint_of c.get-pair.result.now)) c.requires.row) tells c.in-None.is
     ∙ ap (prop_digit (map_of c.args.self.now.sigmap) c.args.k c.args.s c.args.v) (sym (viewpoint_is c.args.self.now.sigmap c.args.self.now.views c.args.v c.get-pair.result.now c.requires.v c.get-pair.ensures))
 
 pub returns-in-None-clause-below : goal.returns-in-None-clause-below

@@ -85,11 +85,11 @@ returns-clause-digit c =
     ∙ ap (λ (ws : List ℕ). joined_from (product (lattice_in_any c.get-tables.result.now.operations ∷ [])) c.base-base.result ws (map (leads_to (sizes_of c.vars-vars.result.now) (take c.len-count.result c.seen-first.result) (take c.len-count.result c.seen-second.result)) c.as_slice-commands.result.now) 0) c.as_slice-weights.ensures
     ∙ ap (λ (vars : List Domain). joined_from (product (lattice_in_any c.get-tables.result.now.operations ∷ [])) c.base-base.result c.get-tables.result.now.weights (map (leads_to (sizes_of vars) (take c.len-count.result c.seen-first.result) (take c.len-count.result c.seen-second.result)) c.as_slice-commands.result.now) 0) c.vars-vars.ensures
     ∙ step_is (map_of c.args.self.now.sigmap) c.args.v (viewpoint_of c.get-pair.result.now) c.get-tables.result.now are c.is_good.ensures c.as_slice-commands.result.now c.args.s c.args.t (take c.len-count.result c.seen-first.result) (take c.len-count.result c.seen-second.result) c.base-base.result _ is
-        (seen_digits (map_of c.args.self.now.sigmap) c.args.v (viewpoint_of c.get-pair.result.now) c.get-tables.result.now _ are (digits_are_in_range (sizes_of (map_of c.args.self.now.sigmap).vars) c.args.s c.requires.s))
-        (seen_digits (map_of c.args.self.now.sigmap) c.args.v (viewpoint_of c.get-pair.result.now) c.get-tables.result.now _ are (digits_are_in_range (sizes_of (map_of c.args.self.now.sigmap).vars) c.args.t c.requires.t))
-        (seen_row c.args.self.now.sigmap c.args.self.now.views c.args.v c.get-pair.result.now c.args.from.now c.seen-first.result c.vars-vars.result.now c.len-count.result c.requires.v c.get-pair.ensures c.seen-first.ensures.seen c.vars-vars.ensures c.len-count.ensures ∙ ap (row_seen (map_of c.args.self.now.sigmap) c.args.v (viewpoint_of c.get-pair.result.now)) c.requires.from)
-        (seen_row c.args.self.now.sigmap c.args.self.now.views c.args.v c.get-pair.result.now c.args.to.now c.seen-second.result c.vars-vars.result.now c.len-count.result c.requires.v c.get-pair.ensures c.seen-second.ensures.seen c.vars-vars.ensures c.len-count.ensures ∙ ap (row_seen (map_of c.args.self.now.sigmap) c.args.v (viewpoint_of c.get-pair.result.now)) c.requires.to)
-        refl c.base-base.ensures
+    (seen_digits (map_of c.args.self.now.sigmap) c.args.v (viewpoint_of c.get-pair.result.now) c.get-tables.result.now _ are (digits_are_in_range (sizes_of (map_of c.args.self.now.sigmap).vars) c.args.s c.requires.s))
+    (seen_digits (map_of c.args.self.now.sigmap) c.args.v (viewpoint_of c.get-pair.result.now) c.get-tables.result.now _ are (digits_are_in_range (sizes_of (map_of c.args.self.now.sigmap).vars) c.args.t c.requires.t))
+    (seen_row c.args.self.now.sigmap c.args.self.now.views c.args.v c.get-pair.result.now c.args.from.now c.seen-first.result c.vars-vars.result.now c.len-count.result c.requires.v c.get-pair.ensures c.seen-first.ensures.seen c.vars-vars.ensures c.len-count.ensures ∙ ap (row_seen (map_of c.args.self.now.sigmap) c.args.v (viewpoint_of c.get-pair.result.now)) c.requires.from)
+    (seen_row c.args.self.now.sigmap c.args.self.now.views c.args.v c.get-pair.result.now c.args.to.now c.seen-second.result c.vars-vars.result.now c.len-count.result c.requires.v c.get-pair.ensures c.seen-second.ensures.seen c.vars-vars.ensures c.len-count.ensures ∙ ap (row_seen (map_of c.args.self.now.sigmap) c.args.v (viewpoint_of c.get-pair.result.now)) c.requires.to)
+    refl c.base-base.ensures
     ∙ ap (step_digit (map_of c.args.self.now.sigmap) c.args.s c.args.t c.args.v) (sym (viewpoint_is c.args.self.now.sigmap c.args.self.now.views c.args.v c.get-pair.result.now c.requires.v c.get-pair.ensures))
 
 pub returns-clause-below : goal.returns-clause-below
