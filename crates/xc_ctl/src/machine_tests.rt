@@ -13,11 +13,11 @@ struct Loop<A: Drop> {
 
 impl<A: Algebra + Drop> Framed for Loop<A> {
     ghost frame = { λ m. record {
-        parts = A.parts m.ring;
-        states = 1;
-        relation = λ s t. (product (A.parts m.ring)).top;
-        props = 1;
-        prop = λ p s. (product (A.parts m.ring)).bottom;
+      parts = A.parts m.ring;
+      states = 1;
+      relation = λ s t. (product (A.parts m.ring)).top;
+      props = 1;
+      prop = λ p s. (product (A.parts m.ring)).bottom;
     } };
 
     type Ring = A;
@@ -39,9 +39,9 @@ impl<A: Algebra + Drop> Framed for Loop<A> {
     }
 
     ghost is_frame = { λ m. record {
-        lawful = A.lawful m.ring;
-        steps = λ s t from to. (A.laws m.ring).top_in_range;
-        values = λ p s prop state. (A.laws m.ring).bottom_in_range;
+      lawful = A.lawful m.ring;
+      steps = λ s t from to. (A.laws m.ring).top_in_range;
+      values = λ p s prop state. (A.laws m.ring).bottom_in_range;
     } };
 }
 

@@ -201,7 +201,10 @@ fn formulas_are_printed(rt: HostRuntime) -> Result<(), Fail> {
         ("E[p | q U (q -> {T,M}) & r]", "E[p|q U(!q|{T,M})&r]"),
     ] {
         let got = printed(alloc, text.as_bytes())?;
-        assert!(rt; matches!(&got, Some(got) if got.as_slice() == want.as_bytes()), "{text}");
+        assert!(rt;
+            matches!(&got, Some(got) if got.as_slice() == want.as_bytes()),
+            "{text}"
+        );
     }
     Ok(())
 }
