@@ -67,7 +67,7 @@ impl Machine {
     }
 
     /// The machine of viewpoints without faults.
-    #[tactic(auto, using(std::proofs::lemmas::Grind::common_steps, crate::proofs::Merging::no_fault, crate::proofs::AsFrame::steps_in, crate::proofs::AsFrame::values_in))]
+    #[tactic(auto, using(std::proofs::lemmas::Grind::common_steps, crate::proofs::Merging::no_fault))]
     fn merge(alloc: Global, merged: Merged) -> Result<Machine, MergeFault>
         requires { all_faults (merged_of merged) ≡ [] }
         ensures ok { IfOk result (λ m. (merge_of m ≡ merged_of merged) × (merge_fault (merged_of merged) ≡ None)) }

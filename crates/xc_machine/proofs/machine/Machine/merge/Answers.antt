@@ -3,6 +3,7 @@ use Rattle.xc_merge.specs.declared.fault.MergeFault.TheVariants.{Initial}
 use Rattle.xc_machine.specs.Gathered.{merged_of}
 use Rattle.xc_machine.proofs.Descending.{found_count, found_states}
 use Rattle.xc_machine.proofs.Merging.{no_initial, many_initial}
+use Rattle.xc_machine.proofs.AsFrame.{steps_in, values_in}
 use Rattle.xc_machine.proofs.machine.Machine.merge.Goals as goal
 
 pub returns-then-found-eq0-clause-err : goal.returns-then-found-eq0-clause-err
@@ -23,4 +24,6 @@ invariant_of-result c =
       begins = listed;
       some = omega (arith, (found_count (merged_of c.args.merged) c.in_ok-found.found c.in_ok-found.ensures), ap length listed, c.if-found-eq0.false);
       few = omega (arith, (found_count (merged_of c.args.merged) c.in_ok-found.found c.in_ok-found.ensures), ap length listed);
+      steps = steps_in c.args.merged;
+      values = values_in c.args.merged;
     }
