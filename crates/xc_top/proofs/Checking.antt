@@ -1,5 +1,5 @@
 -- What comes of the files of a check behind its viewpoints.
-use Rattle.std.proofs.Common.{◌≡◌, ℕ, ◌+◌, ◌<◌, ◌≤◌, List, [], ◌∷◌, ◌++◌, length, map, drop, get_or, Option, Some, None, Result, Ok, Err, MatchOption, refl, sym, ◌∙◌, ap, subst, arith}
+use Rattle.std.proofs.Common.{◌≡◌, ℕ, zero, suc, ◌+◌, ◌<◌, ◌≤◌, List, [], ◌∷◌, ◌++◌, length, map, drop, get_or, Option, Some, None, Result, Ok, Err, MatchOption, refl, sym, ◌∙◌, ap, subst, arith}
 use Rattle.std.specs.String.{string_bytes}
 use Rattle.std.proofs.lemmas.Bool.{lt-ltb}
 use Rattle.xc_base.specs.Formats.{Row, IsAccepted}
@@ -96,10 +96,16 @@ module _ (m : Merge) (next : Course) where
 
 -- the files that are left, behind those of the viewpoints that were found
 left_next : (uses : List Use) (place : ℕ) (u : Use) → place < length uses → u ≡ get_or uses place u → drop place (map (λ (x : Use). x.file) uses) ≡ u.file ∷ drop (place + 1) (map (λ (x : Use). x.file) uses)
-left_next uses place u low is = ?
+left_next [] place u low is = absurd (omega arith)
+left_next (v ∷ uses) zero u low is = rw is refl
+left_next (v ∷ uses) (suc place) u low is = let e : suc place + 1 ≡ suc (place + 1) = omega arith in rw e (left_next uses place u (omega arith) is)
+
+left_all : (uses : List Use) → drop (length uses) (map (λ (x : Use). x.file) uses) ≡ []
+left_all [] = refl
+left_all (v ∷ uses) = left_all uses
 
 left_none : (uses : List Use) (place : ℕ) → place ≡ length uses → drop place (map (λ (x : Use). x.file) uses) ≡ []
-left_none uses place e = ?
+left_none uses place e = rw e (left_all uses)
 
 module _ (plan : MapValue) (found : List Viewpoint) (next : List Viewpoint → Course) (place : ℕ) where
   -- with no file left the work goes on

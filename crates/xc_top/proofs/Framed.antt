@@ -21,14 +21,16 @@ use Rattle.xc_sigmap.specs.declared.statement.Statement.{Statement}
 use Rattle.xc_sigmap.specs.declared.parts.Tell.{Tell}
 use Rattle.xc_sigmap.specs.declared.parts.Told.{Told}
 use Rattle.xc_sigmap.specs.declared.parts.Told.TheVariants.{Named, Constant}
-use Rattle.xc_sigmap.proofs.Fair.{IsFair, none_is_fair, next_is_fair}
+use Rattle.xc_sigmap.specs.Drafts.{IsFair}
+use Rattle.xc_sigmap.proofs.Fair.{none_is_fair, next_is_fair}
 use Rattle.xc_sigmap.proofs.Sound.{map_is_sound}
 use Rattle.xc_expr.specs.Variables.{are_fit}
 use Rattle.xc_merge.specs.Merges.{Merge, Viewpoint, nobody, viewpoint_at, for_each, parts_of, names_of_parts}
-use Rattle.xc_merge.specs.MergedFrames.{merged_frame, step_digit, prop_digit, digit_by, digit_told, line_of}
+use Rattle.xc_merge.specs.MergedFrames.{merged_frame, initials_of, step_digit, prop_digit, digit_by, digit_told, line_of}
 use Rattle.xc_merge.specs.Pieces.{fixed_by, constant_told}
 use Rattle.xc_merge.specs.Faults.{merge_fault, first_of, all_faults, limit_fault, element_limit, initial_fault, viewpoint_faults}
 use Rattle.xc_merge.specs.declared.fault.MergeFault.{MergeFault}
+use Rattle.xc_merge.specs.declared.fault.MergeFault.TheVariants.{Elements}
 use Rattle.xc_machine.proofs.Faultless.{faultless, none_of_one, fixed_within}
 use Rattle.xc_ctl.specs.Frames.{Frame, IsFrame}
 use Rattle.xc_ctl.specs.Trees.{is_fit, is_part, sizes_of}
@@ -84,7 +86,7 @@ no_limit true fault later h = cc
 no_limit false fault later h = refl
 
 few_elements : (m : Merge) → merge_fault m ≡ None → total (sizes (parts_of m)) ≤ 4096
-few_elements m none = ltb-false 4096 (total (sizes (parts_of m))) (no_limit _ _ (initial_fault _) (none_first (all_faults m) (limit_fault m) none).1)
+few_elements m free = ltb-false 4096 (total (sizes (parts_of m))) (no_limit (nat_lt 4096 (total (sizes (parts_of m)))) (Elements (total (sizes (parts_of m)))) (initial_fault (length (initials_of m))) (none_first (all_faults m) (limit_fault m) free).1)
 
 -- digits of all viewpoints
 each_digit : (g : ℕ → ℕ) (found : List Viewpoint) (k : ℕ) → ((i : ℕ) → i < length found → g (k + i) < size (slice_index_or found i nobody).lattice.algebra) → AreDigits (sizes (map (λ (p : Viewpoint). p.lattice.algebra) found)) (map g (range_with_len k (length found)))

@@ -1,13 +1,15 @@
 -- What tables tell of the nodes of formulas over a merged machine, and the text of it.
 use Rattle.std.proofs.Common.{◌≡◌, ℕ, zero, suc, ◌+◌, ◌-◌, ◌<◌, ◌≤◌, Bool, true, false, cond, List, [], ◌∷◌, ◌++◌, length, map, get_or, take, slice_index, refl, sym, ◌∙◌, ap, subst, append_assoc, append-nil, arith}
 use Rattle.std.specs.List.{filter, flat_map, list_all, range_with_len, slice_index_or}
-use Rattle.std.proofs.lemmas.List.{take_more, map-append, length-map}
+use Rattle.std.proofs.lemmas.List.{take_more, map-append, length-map, length-take, get_or-map}
 use Rattle.std.proofs.lemmas.List.Sums.{AllPass-from_list_all}
 use Rattle.xc_theory.specs.Lattices.{size}
 use Rattle.xc_theory.specs.Codes.{digits, AreDigits}
 use Rattle.xc_theory.proofs.Codes.{digits_are_in_range}
 use Rattle.xc_alg.specs.Products.{product, sizes}
 use Rattle.xc_expr.specs.Variables.{sizes_of}
+use Rattle.xc_expr.specs.declared.domain.Domain.{Domain}
+use Rattle.xc_ctl.specs.declared.formula.Formula.{Formula}
 use Rattle.xc_product.specs.Heights.{AreHeights}
 use Rattle.xc_merge.specs.Merges.{Merge, Viewpoint, parts_of, names_of_parts}
 use Rattle.xc_merge.specs.Projections.{states_of, row_of}
@@ -15,7 +17,8 @@ use Rattle.xc_merge.specs.MergedFrames.{merged_frame, initials_of, is_merged_ini
 use Rattle.xc_ctl.specs.Rounds.{RoundsTable, IsTableFor}
 use Rattle.xc_ctl.specs.Tables.{node_at}
 use Rattle.xc_ctl.specs.declared.kind.Kind.{Kind}
-use Rattle.xc_top.specs.Checks.{block_text, blocks_text, AreTables}
+use Rattle.xc_top.specs.Checks.{block_text, blocks_text, kind_word, node_text, rounds_text, AreTables}
+use Rattle.xc_top.proofs.Saying.{line_pushed}
 use Rattle.xc_top.specs.Saying.{AddsBlock, AddsBlocks}
 use Rattle.xc_top.proofs.Lattices.{IsNamed, AreNamed}
 
@@ -108,3 +111,30 @@ block_added m formulas more nodes number old text new e count so_far one = recor
       ∙ ap (λ (back : List ℕ). old ++ back) (sym (blocks_more m 1 formulas so_far.tables nodes one.table number count so_far.are_tables))
       ∙ ap (λ (all : List (List Kind)). old ++ blocks_text m 1 all (so_far.tables ++ one.table ∷ [])) (sym e);
 }
+
+-- the rounds of one node more
+pub node_pushed : (nodes : List Kind) (t : RoundsTable) (text new base : List ℕ) (node rounds : ℕ) (kind : Kind) → kind ≡ node_at nodes node → rounds ≡ t.rounds node
+    → text ≡ base ++ flat_map (node_text nodes t) (range_with_len 0 node) → new ≡ text ++ rounds_text node rounds (kind_word kind) → new ≡ base ++ flat_map (node_text nodes t) (range_with_len 0 (node + 1))
+node_pushed nodes t text new base node rounds kind same many known e =
+    line_pushed (node_text nodes t) text new base node known
+    (e ∙ ap (λ (k : Kind). text ++ rounds_text node rounds (kind_word k)) same ∙ ap (λ (n : ℕ). text ++ rounds_text node n (kind_word (node_at nodes node))) many)
+
+-- the places of the variables at a state
+pub places_digits : (m : Merge) (vars : List Domain) (s : ℕ) (row : List ℕ) → vars ≡ m.plan.vars → s < states_of m.plan → row ≡ digits (sizes_of vars) s → row ≡ row_of m.plan s
+places_digits m vars s row same low e = e ∙ ap (λ (ds : List Domain). digits (sizes_of ds) s) same
+
+pub row_digits : (m : Merge) (s : ℕ) (row : List ℕ) → s < states_of m.plan → row ≡ row_of m.plan s → AreDigits (sizes_of m.plan.vars) row
+row_digits m s row low e = subst (λ (r : List ℕ). AreDigits (sizes_of m.plan.vars) r) (sym e) (digits_are_in_range (sizes_of m.plan.vars) s low)
+
+-- the formulas up to one, and one more
+pub formulas_more : (formulas : List Formula) (i : ℕ) (f : Formula) → i < length formulas → f ≡ get_or formulas i f → map (λ (x : Formula). x.nodes) (take (i + 1) formulas) ≡ map (λ (x : Formula). x.nodes) (take i formulas) ++ f.nodes ∷ []
+formulas_more formulas i f low is =
+    ap (map (λ (x : Formula). x.nodes)) (take_more formulas i f low) ∙ map-append (λ (x : Formula). x.nodes) (take i formulas) (get_or formulas i f ∷ [])
+    ∙ ap (λ (last : Formula). map (λ (x : Formula). x.nodes) (take i formulas) ++ last.nodes ∷ []) (sym is)
+
+pub formula_number : (formulas : List Formula) (i : ℕ) → i < length formulas → 1 + length (map (λ (x : Formula). x.nodes) (take i formulas)) ≡ i + 1
+formula_number formulas i low = omega (arith, length-map (take i formulas) (λ (x : Formula). x.nodes), length-take i formulas)
+
+pub formula_passes : (p : List Kind → Bool) (formulas : List Formula) (i : ℕ) (f : Formula) → list_all p (map (λ (x : Formula). x.nodes) formulas) ≡ true → i < length formulas → f ≡ get_or formulas i f → p f.nodes ≡ true
+formula_passes p formulas i f h low is =
+    rw (ap (λ (x : Formula). x.nodes) is ∙ sym (get_or-map (λ (x : Formula). x.nodes) formulas i f f.nodes low)) (AllPass-from_list_all p (map (λ (x : Formula). x.nodes) formulas) h i f.nodes (omega (arith, length-map formulas (λ (x : Formula). x.nodes))))

@@ -1,6 +1,6 @@
 //! The text of a check: the line of the machine, and what is told of each formula.
 
-ghost use Rattle.std.specs.Prelude.{◌≡◌, ◌<◌, ◌≤◌, ◌-◌, ◌++◌, ℕ, length, IfOk, OnOk, sum, List as Items};
+ghost use Rattle.std.specs.Prelude.{◌≡◌, ◌<◌, ◌≤◌, ◌-◌, [], ◌∷◌, ◌++◌, ℕ, length, IfOk, OnOk, sum, List as Items};
 ghost use Rattle.std.specs.List.{flat_map, range_with_len};
 ghost use Rattle.std.specs.Option.{option_map};
 ghost use Rattle.std.specs.String.{string_bytes};
@@ -14,7 +14,7 @@ ghost use Rattle.xc_machine.specs.Machines.{merge_of};
 ghost use Rattle.xc_product.specs.Heights.{AreHeights};
 ghost use Rattle.xc_ctl.specs.Rounds.{IsTableFor};
 ghost use Rattle.xc_top.specs.Checks.{block_text, element_text, kind_word, map_text, node_text, places_text, rounds_text, value_text};
-ghost use Rattle.xc_top.specs.Saying.{place_text, state_text};
+ghost use Rattle.xc_top.specs.Saying.{mark_of, place_text, state_text};
 
 use crate::text::push_both;
 use std::alloc::{AllocError, Global};
@@ -45,6 +45,13 @@ fn push_places(text: &mut String, vars: &Vars, row: &[u8]) -> Result<(), AllocEr
     Ok(())
 }
 
+/// What stands before the name of a digit.
+fn mark_of(part: u8) -> &'static str
+    ensures { result.now ≡ mark_of part ∷ [] }
+{
+    if part == 0 { " " } else { "," }
+}
+
 /// Appends the names of the digits of an element.
 fn push_element(text: &mut String, machine: &Machine, element: u16) -> Result<(), AllocError>
     requires { element < (product (parts_of (merge_of machine.now))).size }
@@ -55,8 +62,7 @@ fn push_element(text: &mut String, machine: &Machine, element: u16) -> Result<()
     for part in 0..product.parts() {
         let digit = product.digit(element, part);
         let names = machine.parts().get(usize::from(part));
-        let mark = if part == 0 { " " } else { "," };
-        push_both(text, mark, names.get(usize::from(digit)).as_str())?;
+        push_both(text, mark_of(part), names.get(usize::from(digit)).as_str())?;
     }
     Ok(())
 }

@@ -1,0 +1,15 @@
+use Rattle.std.proofs.Common.{◌≡◌, List, Bool, true, sym, ap, subst, ◌∙◌}
+use Rattle.xc_expr.specs.Variables.{are_fit}
+use Rattle.xc_expr.specs.declared.domain.Domain.{Domain}
+use Rattle.xc_sigmap.specs.MapFiles.{MapValue}
+use Rattle.xc_machine.specs.Machines.{merge_of}
+use Rattle.xc_top.proofs.Framed.{declared_parts}
+use Rattle.xc_top.proofs.Telling.{row_digits, places_digits}
+use Rattle.xc_top.proofs.block.push_value.Goals as goal
+
+pub places_of-places-requires-clause-fit : goal.places_of-places-requires-clause-fit
+places_of-places-requires-clause-fit c =
+    subst (λ (vars : List Domain). are_fit vars ≡ true) (sym (c.vars.ensures ∙ ap (λ (plan : MapValue). plan.vars) c.map.ensures)) (declared_parts (merge_of c.args.machine.now).plan c.is_framed.ensures.map).fit
+
+pub push_state-requires-clause-row : goal.push_state-requires-clause-row
+push_state-requires-clause-row c = ?
