@@ -104,7 +104,7 @@ row_of_few p q n m relation row read few e same sized is made are told =
     let count : m ≡ n = sized ∙ (ap length same ∙ is.count) in
     let safe : AreSuccessors (product q).size n few = subst (λ (k : ℕ). AreSuccessors (product q).size k few) count (subst (λ (parts : List LatticeData). AreSuccessors (product parts).size m few) e are) in
     let all : (f : ℕ → ℕ) → IsFunction (product q) m f → few_joined (product q) f (product q).bottom few ≡ weighed_from (product q) (slice_index read) f 0 m
-        = subst (λ (parts : List LatticeData). (f : ℕ → ℕ) → IsFunction (product parts) m f → few_joined (product parts) f (product parts).bottom few ≡ weighed_from (product parts) (slice_index read) f 0 m) e told in
+    = subst (λ (parts : List LatticeData). (f : ℕ → ℕ) → IsFunction (product parts) m f → few_joined (product parts) f (product parts).bottom few ≡ weighed_from (product parts) (slice_index read) f 0 m) e told in
     record {
       safe = safe;
       told = λ f within.

@@ -30,9 +30,9 @@ module _ (o : Operations) (laws : IsAlgebra o) (n : ℕ) where
   row_monotone (Few successors) safe = few_monotone successors (λ z s. o.bottom) safe (monotone_constant o laws n (λ s. o.bottom) (λ s low. laws.bottom_in_range))
   row_monotone (Each values) safe =
       monotone_joined o laws n (length values) (λ t z s. o.meet (slice_index values t) (z t)) (λ t low.
-        monotone_meet o laws n (λ z s. slice_index values t) (λ z s. z t)
-        (monotone_constant o laws n (λ s. slice_index values t) (λ s here. safe.range t (omega (arith, safe.count))))
-        (monotone_value o laws n t (omega (arith, safe.count))))
+      monotone_meet o laws n (λ z s. slice_index values t) (λ z s. z t)
+      (monotone_constant o laws n (λ s. slice_index values t) (λ s here. safe.range t (omega (arith, safe.count))))
+      (monotone_value o laws n t (omega (arith, safe.count))))
 
   module _ (rows : List Row) (safe : AreSafe o.size n rows) where
     pub next_monotone : IsMonotone o n (next_by o rows)

@@ -154,10 +154,10 @@ module _ (frame : Frame) (is : IsFrame frame) (rows : List Row) (are : AreRowsOf
   each_until_told i j iterates rounds few =
       least_told frame is (step_by (product frame.parts) rows EachUntil a b) (Au i j) a b (form_monotone EachUntil)
       (λ f within s low.
-        ap (λ (x : ℕ). (product frame.parts).join (b s) ((product frame.parts).meet (a s) ((product frame.parts).meet ((product frame.parts).negation x) (next_by (product frame.parts) rows f s))))
-        (next_told frame is rows are (λ t. (product frame.parts).negation (f t)) (negated f within) s low)
-        ∙ ap (λ (x : ℕ). (product frame.parts).join (b s) ((product frame.parts).meet (a s) ((product frame.parts).meet ((product frame.parts).negation (some_next frame (λ t. (product frame.parts).negation (f t)) s)) x)))
-        (next_told frame is rows are f within s low))
+      ap (λ (x : ℕ). (product frame.parts).join (b s) ((product frame.parts).meet (a s) ((product frame.parts).meet ((product frame.parts).negation x) (next_by (product frame.parts) rows f s))))
+      (next_told frame is rows are (λ t. (product frame.parts).negation (f t)) (negated f within) s low)
+      ∙ ap (λ (x : ℕ). (product frame.parts).join (b s) ((product frame.parts).meet (a s) ((product frame.parts).meet ((product frame.parts).negation (some_next frame (λ t. (product frame.parts).negation (f t)) s)) x)))
+      (next_told frame is rows are f within s low))
       iterates rounds few refl refl
 
   pub always_told : (i : ℕ) (other : ℕ → ℕ) (iterates : List (List ℕ)) → AreRounds (product frame.parts) false frame.states (step_by (product frame.parts) rows Always a b) iterates → length iterates ≤ 4294967296 → TellsNode frame (Eg i) a other iterates

@@ -14,3 +14,6 @@ mod table;
 pub use engine::solve;
 pub use steps::Steps;
 pub use table::PlainTable;
+
+#[cfg(test)]
+mod tests;

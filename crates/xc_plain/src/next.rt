@@ -4,7 +4,6 @@ ghost use Rattle.std.specs.Prelude.{◌≡◌, ◌<◌, length, IfOk, get_or, sl
 ghost use Rattle.xc_alg.specs.Products.{product};
 ghost use Rattle.xc_fixpoint.specs.Lists.{values};
 ghost use Rattle.xc_plain.specs.Successors.{IsRow, AreSuccessors, few_joined, weighed_from, row_joined, IsSafe, AreSafe, next_by};
-
 ghost use Rattle.xc_plain.specs.declared.row.Successor.{Successor};
 
 use crate::row::{Row, Successor};

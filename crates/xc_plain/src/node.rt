@@ -165,10 +165,22 @@ pub(crate) fn node_rows<M: Framed>(
     match kind {
         Kind::Const(code) => alone(alloc, constant_row(alloc, model, code)?),
         Kind::Atom(prop) => alone(alloc, atom_row(alloc, model, prop)?),
-        Kind::Not(child) => alone(alloc, negation_row(alloc, model, function_of(table, child))?),
-        Kind::And(left, right) => alone(alloc, meet_row(alloc, model, function_of(table, left), function_of(table, right))?),
-        Kind::Or(left, right) => alone(alloc, join_row(alloc, model, function_of(table, left), function_of(table, right))?),
-        Kind::Ex(child) => alone(alloc, some_next_row(alloc, model, rows, function_of(table, child))?),
+        Kind::Not(child) => {
+            let codes = function_of(table, child);
+            alone(alloc, negation_row(alloc, model, codes)?)
+        }
+        Kind::And(left, right) => {
+            let (left, right) = (function_of(table, left), function_of(table, right));
+            alone(alloc, meet_row(alloc, model, left, right)?)
+        }
+        Kind::Or(left, right) => {
+            let (left, right) = (function_of(table, left), function_of(table, right));
+            alone(alloc, join_row(alloc, model, left, right)?)
+        }
+        Kind::Ex(child) => {
+            let codes = function_of(table, child);
+            alone(alloc, some_next_row(alloc, model, rows, codes)?)
+        }
         Kind::Eu(left, right) => {
             let (left, right) = (function_of(table, left), function_of(table, right));
             let iterates = fixpoint_rows(alloc, model, rows, Form::SomeUntil, left, right)?;
