@@ -1,4 +1,4 @@
--- What the tables of a viewpoint hold. No public clause rests on these words.
+-- What the tables of a viewpoint hold. Public clauses rest on `IsGood` alone among these words.
 use Rattle.std.specs.Prelude.{◌≡◌, ◌<◌, ◌≤◌, ℕ, true, false, List, ◌∷◌, [], length, map, slice_index, Some}
 use Rattle.std.specs.List.{slice_index_or, list_all}
 use Rattle.std.specs.Option.{is_some}

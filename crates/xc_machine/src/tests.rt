@@ -42,23 +42,37 @@ fn views(alloc: Global, files: &[(&[u8], &[u8])]) -> Result<List<(View, Lattice)
     Ok(views)
 }
 
-// What the files merge to, where there is a view for each viewpoint of the map.
+// What the files merge to; want of memory is told too where there is no view for each viewpoint of the map.
 fn merged(
     alloc: Global,
     map: &[u8],
     files: &[(&[u8], &[u8])],
-) -> Result<Option<Result<Machine, MergeFault>>, Fail> {
+) -> Result<Result<Machine, MergeFault>, Fail> {
     let views = views(alloc, files)?;
     let lines = cut_lines(alloc, map, 1_048_576)?;
     match xc_sigmap::read(alloc, &lines) {
         Ok(map) => {
             if views.len() == map.uses().len() {
-                Ok(Some(Machine::of(alloc, map, views)))
+                Ok(Machine::of(alloc, map, views))
             } else {
-                Ok(None)
+                Ok(Err(MergeFault::Memory))
             }
         }
-        Err(_) => Ok(None),
+        Err(_) => Ok(Err(MergeFault::Memory)),
+    }
+}
+
+// What the files merge to: the values of all steps, of the propositions, and what is seen of the states; else why they do not.
+fn answer(alloc: Global, map: &[u8], files: &[(&[u8], &[u8])]) -> Result<String, Fail> {
+    match merged(alloc, map, files)? {
+        Ok(machine) => {
+            let steps = steps_told(alloc, &machine)?;
+            let lit = atoms_told(alloc, &machine, 0)?;
+            let safe = atoms_told(alloc, &machine, 1)?;
+            let seen = seen_told(alloc, &machine)?;
+            Ok(format!(in alloc; "{steps}| {lit}| {safe}| {seen}")?)
+        }
+        Err(fault) => Ok(fault_told(alloc, &fault)?),
     }
 }
 
@@ -127,33 +141,14 @@ fn seen_told(alloc: Global, machine: &Machine) -> Result<String, AllocError> {
 
 #[test]
 fn the_house(rt: HostRuntime) -> Result<(), Fail> {
-    let alloc = rt.alloc();
     let files = [(ANN, CHAIN), (BEN, DIAMOND), (CAT, TWO)];
-    match merged(alloc, HOUSE, &files)? {
-        Some(Ok(machine)) => {
-            let steps = steps_told(alloc, &machine)?;
-            assert_eq!(rt;
-                steps.as_str(),
-                "0 1 19 1 true; 0 0 0 19 true; 19 1 6 15 false; 0 19 6 6 false; 0 1 "
-            );
-            let lit = atoms_told(alloc, &machine, 0)?;
-            assert_eq!(rt; lit.as_str(), "0 23 0 23 ");
-            let safe = atoms_told(alloc, &machine, 1)?;
-            assert_eq!(rt; safe.as_str(), "23 23 5 13 ");
-            let seen = seen_told(alloc, &machine)?;
-            assert_eq!(rt;
-                seen.as_str(),
-                "ann chain 0 1 2 3 0; ben diamond 0 1 2 3 0; cat two 0 1 0 1 1; "
-            );
-        }
-        _ => assert!(rt; false),
-    }
+    let told = answer(rt.alloc(), HOUSE, &files)?;
+    assert_eq!(rt; told.as_str(), "0 1 19 1 true; 0 0 0 19 true; 19 1 6 15 false; 0 19 6 6 false; 0 1 | 0 23 0 23 | 23 23 5 13 | ann chain 0 1 2 3 0; ben diamond 0 1 2 3 0; cat two 0 1 0 1 1; ");
     Ok(())
 }
 
 #[test]
 fn viewpoints_that_do_not_merge(rt: HostRuntime) -> Result<(), Fail> {
-    let alloc = rt.alloc();
     let table: [(&[u8], &[u8], &str); 5] = [
         (
             b"map m\nuse a a\nvar x 0 1\nsend a x x\n".as_slice(),
@@ -182,13 +177,8 @@ fn viewpoints_that_do_not_merge(rt: HostRuntime) -> Result<(), Fail> {
         ),
     ];
     for (map, view, expected) in table {
-        match merged(alloc, map, &[(view, TWO)])? {
-            Some(Err(fault)) => {
-                let told = fault_told(alloc, &fault)?;
-                assert_eq!(rt; told.as_str(), expected);
-            }
-            _ => assert!(rt; false),
-        }
+        let told = answer(rt.alloc(), map, &[(view, TWO)])?;
+        assert_eq!(rt; told.as_str(), expected);
     }
     Ok(())
 }
