@@ -13,8 +13,8 @@ pub merged_is_framed : (m : Merged) → IsFrame (merged_frame (merged_of m))
 merged_is_framed m =
     framed m.sigmap m.views
     (λ v x k low e.
-      let t = item m.tables v (tables_count m.sigmap m.views m.tables v m.one_table_each low) in
-      (tables_at m.sigmap m.views m.tables v t.0 m.tabled low t.1).fixed_in k x e)
+    let t = item m.tables v (tables_count m.sigmap m.views m.tables v m.one_table_each low) in
+    (tables_at m.sigmap m.views m.tables v t.0 m.tabled low t.1).fixed_in k x e)
 
 -- so the values of its steps and of its propositions are elements
 pub steps_in : (m : Merged) (s t : ℕ) → s < (merged_frame (merged_of m)).states → t < (merged_frame (merged_of m)).states → (merged_frame (merged_of m)).relation s t < (product (merged_frame (merged_of m)).parts).size

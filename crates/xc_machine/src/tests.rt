@@ -143,7 +143,10 @@ fn seen_told(alloc: Global, machine: &Machine) -> Result<String, AllocError> {
 fn the_house(rt: HostRuntime) -> Result<(), Fail> {
     let files = [(ANN, CHAIN), (BEN, DIAMOND), (CAT, TWO)];
     let told = answer(rt.alloc(), HOUSE, &files)?;
-    assert_eq!(rt; told.as_str(), "0 1 19 1 true; 0 0 0 19 true; 19 1 6 15 false; 0 19 6 6 false; 0 1 | 0 23 0 23 | 23 23 5 13 | ann chain 0 1 2 3 0; ben diamond 0 1 2 3 0; cat two 0 1 0 1 1; ");
+    assert_eq!(rt;
+        told.as_str(),
+        "0 1 19 1 true; 0 0 0 19 true; 19 1 6 15 false; 0 19 6 6 false; 0 1 | 0 23 0 23 | 23 23 5 13 | ann chain 0 1 2 3 0; ben diamond 0 1 2 3 0; cat two 0 1 0 1 1; "
+    );
     Ok(())
 }
 
