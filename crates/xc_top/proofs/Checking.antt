@@ -1,5 +1,5 @@
 -- What comes of the files of a check behind its viewpoints.
-use Rattle.std.proofs.Common.{◌≡◌, ℕ, zero, suc, ◌+◌, ◌<◌, ◌≤◌, List, [], ◌∷◌, ◌++◌, length, map, drop, get_or, Option, Some, None, Result, Ok, Err, MatchOption, refl, sym, ◌∙◌, ap, subst, arith}
+use Rattle.std.proofs.Common.{◌≡◌, ℕ, zero, suc, ◌+◌, ◌<◌, ◌≤◌, List, [], ◌∷◌, ◌++◌, length, map, drop, get_or, length-append, Option, Some, None, Result, Ok, Err, MatchOption, refl, sym, ◌∙◌, ap, subst, arith}
 use Rattle.std.specs.String.{string_bytes}
 use Rattle.std.proofs.lemmas.Bool.{lt-ltb}
 use Rattle.xc_base.specs.Formats.{Row, IsAccepted}
@@ -10,6 +10,10 @@ use Rattle.xc_ctl.specs.declared.kind.Kind.{Kind}
 use Rattle.xc_sigmap.specs.MapFiles.{MapValue}
 use Rattle.xc_sigmap.specs.declared.parts.Use.{Use}
 use Rattle.xc_merge.specs.Merges.{Merge, Viewpoint}
+use Rattle.xc_merge.specs.Merging.{viewpoint_of}
+use Rattle.xc_view.specs.declared.view.View.{View}
+use Rattle.xc_lattice.specs.declared.lattice.Lattice.{Lattice}
+use Rattle.std.proofs.lemmas.List.{map-append}
 use Rattle.xc_merge.specs.Projections.{states_of}
 use Rattle.xc_merge.specs.Faults.{merge_fault, IsRefusal}
 use Rattle.xc_merge.specs.declared.fault.MergeFault.{MergeFault}
@@ -123,3 +127,16 @@ module _ (plan : MapValue) (found : List Viewpoint) (next : List Viewpoint → C
     next_goes_on p before shelf shelf_after result viewpoint same counts h =
         subst (λ (files : List (List ℕ)). IsPrepared (LoadsViewpoints files found next) before shelf_after result) (sym (left_next plan.uses place u low is))
         (viewpoint_goes_on u.file (λ q. LoadsViewpoints (drop (place + 1) (files_of plan)) (found ++ q ∷ []) next) p before shelf shelf_after result viewpoint same counts h)
+
+-- a viewpoint behind those that were found, as the code has it
+pub pushed_on : (plan : MapValue) (next : List Viewpoint → Course) (views new : List (View × Lattice)) (x : View × Lattice) (shelf shelf_after : Shelved) (result : Result Answer Halt) → new ≡ views ++ x ∷ []
+    → IsPrepared (LoadsViewpoints (drop (length new) (files_of plan)) (map viewpoint_of new) next) shelf shelf_after result → IsPrepared (LoadsViewpoints (drop (length views + 1) (files_of plan)) (map viewpoint_of views ++ viewpoint_of x ∷ []) next) shelf shelf_after result
+pushed_on plan next views new x shelf shelf_after result e h =
+    let many : length new ≡ length views + 1 = ap (λ (vs : List (View × Lattice)). length vs) e ∙ length-append views (x ∷ []) in
+    let found : map viewpoint_of new ≡ map viewpoint_of views ++ viewpoint_of x ∷ [] = ap (map viewpoint_of) e ∙ map-append viewpoint_of views (x ∷ []) in
+    subst (λ (n : ℕ). IsPrepared (LoadsViewpoints (drop n (files_of plan)) (map viewpoint_of views ++ viewpoint_of x ∷ []) next) shelf shelf_after result) many
+    (subst (λ (ps : List Viewpoint). IsPrepared (LoadsViewpoints (drop (length new) (files_of plan)) ps next) shelf shelf_after result) found h)
+
+-- the line of a use that is read is that of its place
+pub use_at : (uses all : List Use) (place count : ℕ) (u : Use) → all ≡ uses → place ≡ count → u ≡ get_or all place u → u ≡ get_or uses count u
+use_at uses all place count u same at is = is ∙ ap (λ (us : List Use). get_or us place u) same ∙ ap (λ (k : ℕ). get_or uses k u) at

@@ -1,9 +1,10 @@
 -- What tables tell of the nodes of formulas over a merged machine, and the text of it.
-use Rattle.std.proofs.Common.{◌≡◌, ℕ, zero, suc, ◌+◌, ◌-◌, ◌<◌, ◌≤◌, Bool, true, false, cond, List, [], ◌∷◌, ◌++◌, length, map, get_or, take, slice_index, refl, sym, ◌∙◌, ap, subst, append_assoc, append-nil, arith}
+use Rattle.std.proofs.Common.{◌≡◌, ℕ, zero, suc, ◌+◌, ◌-◌, ◌<◌, ◌≤◌, Bool, true, false, cond, List, [], ◌∷◌, ◌++◌, length, map, get_or, take, drop, slice_index, refl, sym, ◌∙◌, ap, subst, append_assoc, append-nil, arith}
 use Rattle.std.specs.List.{filter, flat_map, list_all, range_with_len, slice_index_or}
-use Rattle.std.proofs.lemmas.List.{take_more, map-append, length-map, length-take, get_or-map}
+use Rattle.std.proofs.lemmas.List.{take_more, map-append, length-map, length-take, get_or-map, get_or_read, get_or_default}
 use Rattle.std.proofs.lemmas.List.Sums.{AllPass-from_list_all}
-use Rattle.xc_theory.specs.Lattices.{size}
+use Rattle.xc_theory.specs.Lattices.{LatticeData, size}
+use Rattle.xc_base.specs.Names.{name_at}
 use Rattle.xc_theory.specs.Codes.{digits, AreDigits}
 use Rattle.xc_theory.proofs.Codes.{digits_are_in_range}
 use Rattle.xc_alg.specs.Products.{product, sizes}
@@ -17,9 +18,9 @@ use Rattle.xc_merge.specs.MergedFrames.{merged_frame, initials_of, is_merged_ini
 use Rattle.xc_ctl.specs.Rounds.{RoundsTable, IsTableFor}
 use Rattle.xc_ctl.specs.Tables.{node_at}
 use Rattle.xc_ctl.specs.declared.kind.Kind.{Kind}
-use Rattle.xc_top.specs.Checks.{block_text, blocks_text, kind_word, node_text, rounds_text, AreTables}
-use Rattle.xc_top.proofs.Saying.{line_pushed}
-use Rattle.xc_top.specs.Saying.{AddsBlock, AddsBlocks}
+use Rattle.xc_top.specs.Checks.{block_text, blocks_text, digits_text, kind_word, node_text, rounds_text, AreTables}
+use Rattle.xc_top.proofs.Saying.{digit_pushed, line_pushed}
+use Rattle.xc_top.specs.Saying.{mark_of, AddsBlock, AddsBlocks}
 use Rattle.xc_top.proofs.Lattices.{IsNamed, AreNamed}
 
 -- what a test picks of the numbers from one on is below their end
@@ -138,3 +139,33 @@ formula_number formulas i low = omega (arith, length-map (take i formulas) (λ (
 pub formula_passes : (p : List Kind → Bool) (formulas : List Formula) (i : ℕ) (f : Formula) → list_all p (map (λ (x : Formula). x.nodes) formulas) ≡ true → i < length formulas → f ≡ get_or formulas i f → p f.nodes ≡ true
 formula_passes p formulas i f h low is =
     rw (ap (λ (x : Formula). x.nodes) is ∙ sym (get_or-map (λ (x : Formula). x.nodes) formulas i f f.nodes low)) (AllPass-from_list_all p (map (λ (x : Formula). x.nodes) formulas) h i f.nodes (omega (arith, length-map formulas (λ (x : Formula). x.nodes))))
+
+-- a digit of an element has a name
+pub digit_has_name : (m : Merge) (all : List (List (List ℕ))) (names : List (List ℕ)) (parts : List LatticeData) (part place digit index count : ℕ) → AreNamed m.viewpoints → all ≡ names_of_parts m → parts ≡ parts_of m → count ≡ length parts → part < count → place ≡ part
+    → names ≡ get_or all place names → digit < slice_index (sizes parts) part → index ≡ digit → index < length names
+digit_has_name m all names parts part place digit index count are same alike many low at is within here =
+    let rows : length all ≡ length m.viewpoints = ap (λ (xs : List (List (List ℕ))). length xs) same ∙ length-map m.viewpoints (λ (p : Viewpoint). p.lattice.names) in
+    let cols : length parts ≡ length m.viewpoints = ap (λ (xs : List LatticeData). length xs) alike ∙ length-map m.viewpoints (λ (p : Viewpoint). p.lattice.algebra) in
+    let there : place < length all = omega arith in
+    let moved : digit < slice_index (sizes (parts_of m)) place = subst (λ (k : ℕ). digit < slice_index (sizes (parts_of m)) k) (sym at) (subst (λ (ps : List LatticeData). digit < slice_index (sizes ps) part) alike within) in
+    let named : digit < length names = digit_named m place digit all names are same there is moved in
+    omega arith
+
+-- one digit more with its name
+pub element_pushed : (m : Merge) (element : ℕ) (all : List (List (List ℕ))) (names : List (List ℕ)) (parts : List LatticeData) (part place digit index count : ℕ) (mark name word text new base : List ℕ) → AreNamed m.viewpoints → element < (product (parts_of m)).size → all ≡ names_of_parts m → parts ≡ parts_of m
+    → count ≡ length parts → part < count → place ≡ part → names ≡ get_or all place names → digit ≡ slice_index (digits (sizes parts) element) part → digit < slice_index (sizes parts) part → index ≡ digit
+    → text ++ digits_text (mark_of part) (drop part (names_of_parts m)) (drop part (digits (sizes (parts_of m)) element)) ≡ base → mark ≡ mark_of part ∷ [] → word ≡ get_or names index word → name ≡ word → new ≡ text ++ mark ++ name
+    → new ++ digits_text (mark_of (part + 1)) (drop (part + 1) (names_of_parts m)) (drop (part + 1) (digits (sizes (parts_of m)) element)) ≡ base
+element_pushed m element all names parts part place digit index count mark name word text new base are in_range same alike many low at is value within here known marked read spelled e =
+    let inside : index < length names = digit_has_name m all names parts part place digit index count are same alike many low at is within here in
+    let called : name ≡ name_at names digit = spelled ∙ get_or_read names index word inside read [] ∙ ap (name_at names) here in
+    let whole : new ≡ text ++ mark_of part ∷ name_at names digit = e ∙ rw (marked, called) (simp append_assoc) in
+    let cols : length parts ≡ length m.viewpoints = ap (λ (xs : List LatticeData). length xs) alike ∙ length-map m.viewpoints (λ (p : Viewpoint). p.lattice.algebra) in
+    let rows : length (names_of_parts m) ≡ length m.viewpoints = length-map m.viewpoints (λ (p : Viewpoint). p.lattice.names) in
+    let read_names : names ≡ get_or (names_of_parts m) part names = is ∙ ap (λ (xs : List (List (List ℕ))). get_or xs place names) same ∙ ap (λ (k : ℕ). get_or (names_of_parts m) k names) at in
+    let read_digit : digit ≡ get_or (digits (sizes (parts_of m)) element) part 0 = value ∙ ap (λ (ps : List LatticeData). slice_index (digits (sizes ps) element) part) alike in
+    digit_pushed (names_of_parts m) (digits (sizes (parts_of m)) element) text new base (length (names_of_parts m)) part digit names (digits_many m element in_range) refl (omega arith) read_names read_digit known whole
+
+-- an initial state that is read is a state
+pub initial_at : (m : Merge) (states : List ℕ) (i : ℕ) → states ≡ initials_of m → i < length states → get_or states i 0 < states_of m.plan
+initial_at m states i e low = initial_below m states i (get_or states i 0) e low (get_or_default states i 0 (get_or states i 0) low)
