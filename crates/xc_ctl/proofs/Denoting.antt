@@ -10,11 +10,11 @@ use Rattle.xc_fixpoint.proofs.Fixpoints.{extremal_is_unique, extremal_exists}
 use Rattle.xc_fixpoint.proofs.SameSteps.{AreSameSteps, same_steps-fixpoint, same_steps-extremal}
 use Rattle.xc_ctl.specs.Frames.{Frame, IsFrame, step_at}
 use Rattle.xc_ctl.specs.Tables.{first_child, second_child, has_children_below, are_ordered_from, node_at, is_kind_in, is_table_in}
-use Rattle.xc_ctl.specs.Denotations.{Denotes, AreDenotations, IsDenoted}
+use Rattle.xc_ctl.specs.Denotations.{Denotes, AreDenotations}
 use Rattle.xc_ctl.specs.Laws.{DenotationsExist, DenotationsAreUnique, DenotationsAreInRange, FormulasDenote, FormulasDenoteOnce}
 use Rattle.xc_ctl.specs.declared.kind.Kind.{Kind}
 use Rattle.xc_ctl.specs.declared.kind.Kind.TheVariants.{Const}
-use Rattle.xc_ctl.proofs.KindCases.{Which, which, plain_step}
+use Rattle.xc_ctl.proofs.KindCases.{which, plain_step}
 use Rattle.xc_ctl.proofs.KindCases.Which.{rises, falls, stays}
 use Rattle.xc_ctl.proofs.Monotone.{step_monotone, step_same}
 

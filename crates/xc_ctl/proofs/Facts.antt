@@ -1,5 +1,5 @@
 -- Formulas and what they denote at small cases whose values are known from outside: a wrong definition does not check here.
-use Rattle.std.proofs.Common.{◌≡◌, ℕ, ◌+◌, Bool, true, false, cond, eqb, List, [], ◌∷◌, ◌++◌, replicate, Some, None, codes, refl}
+use Rattle.std.proofs.Common.{◌≡◌, ℕ, true, false, cond, eqb, List, [], ◌∷◌, Some, None, codes, refl}
 use Rattle.xc_theory.specs.Bounds.{first_meet, first_join}
 use Rattle.xc_theory.proofs.Facts.{two, chain}
 use Rattle.xc_alg.specs.Products.{product}
@@ -13,7 +13,7 @@ use Rattle.xc_ctl.specs.Written.IsSpelled.{truth, name, factor, summand, conclus
 use Rattle.xc_ctl.specs.FormulaReading as reading
 use Rattle.xc_ctl.specs.FormulaReading.{names, one_name, atom, implications, implications_up_to, basic, nested, sum, implication}
 use Rattle.xc_ctl.specs.Reading.{formula_in}
-use Rattle.xc_ctl.specs.Trees.{Signature, Tree, is_fit, is_part, element_named, resolved, Const, Atom, Not, And, Or, Ex, Eu, Au, Eg}
+use Rattle.xc_ctl.specs.Trees.{Signature, is_fit, is_part, element_named, resolved, Const, Atom, Not, And, Or, Ex, Eu, Au, Eg}
 use Rattle.xc_ctl.specs.Tables.{size_of, nodes_of, is_table, is_table_in}
 use Rattle.xc_ctl.specs.Texts.{text_of}
 use Rattle.xc_ctl.specs.FormulaFiles.{tree_excess, missing_part}
@@ -79,9 +79,10 @@ whole_truth : (d : ℕ) → written.IsSpelled written.Implication d (codes "true
 whole_truth d = conclusion d _ _ (summand d _ _ (factor d _ _ (truth d)))
 
 pub spelled : IsFormula (codes "AX" ∷ codes "true" ∷ []) (written.Prefixed AllNext written.True) × IsFormula (codes "E" ∷ codes "[" ∷ codes "true" ∷ codes "U" ∷ codes "true" ∷ codes "]" ∷ []) (written.Until SomePath written.True written.True)
-spelled =
-    (conclusion 512 _ _ (summand 512 _ _ (factor 512 _ _ (prefixed 511 AllNext _ _ (truth 511)))),
-    conclusion 512 _ _ (summand 512 _ _ (factor 512 _ _ (until 511 SomePath (codes "true" ∷ []) (codes "true" ∷ []) _ _ (whole_truth 511) (whole_truth 511)))))
+spelled = (
+  conclusion 512 _ _ (summand 512 _ _ (factor 512 _ _ (prefixed 511 AllNext _ _ (truth 511)))),
+  conclusion 512 _ _ (summand 512 _ _ (factor 512 _ _ (until 511 SomePath (codes "true" ∷ []) (codes "true" ∷ []) _ _ (whole_truth 511) (whole_truth 511)))),
+)
 
 -- what stands for abbreviations: `AX p` is `!EX!p`, and `p -> p` is `!p | p`
 pub written_out : (resolved pair (written.Prefixed AllNext (written.Name p)) ≡ Some (Not (Ex (Not (Atom 0))))) × (resolved pair (written.Implies (written.Name p) written.False) ≡ Some (Or (Not (Atom 0)) (Const 0)))

@@ -1,5 +1,5 @@
 -- What formulas of paths denote on a small frame, where their values are known from outside: a wrong definition does not check here.
-use Rattle.std.proofs.Common.{◌≡◌, ℕ, zero, suc, ◌-◌, ◌<◌, ◌≤◌, Bool, true, false, cond, eqb, List, [], ◌∷◌, refl, sym, subst, arith}
+use Rattle.std.proofs.Common.{◌≡◌, ℕ, zero, suc, ◌-◌, ◌<◌, Bool, true, false, cond, eqb, [], ◌∷◌, refl, sym, subst, arith}
 use Rattle.xc_theory.specs.Bounds.{first_meet, first_join}
 use Rattle.xc_theory.proofs.Facts.{two}
 use Rattle.xc_alg.specs.Products.{product}

@@ -1,11 +1,11 @@
 -- Each table of nodes has one table of rounds, and the rounds of a node are few.
-use Rattle.std.proofs.Common.{◌≡◌, ℕ, suc, ◌+◌, ◌*◌, ◌<◌, ◌≤◌, true, false, List, length, refl, sym, ◌∙◌, subst, arith, inl, inr, ◌⊎◌}
+use Rattle.std.proofs.Common.{◌≡◌, ℕ, ◌*◌, ◌<◌, ◌≤◌, true, false, List, length, refl, sym, ◌∙◌, subst, arith, inl, inr, ◌⊎◌}
 use Rattle.std.specs.List.{sum}
 use Rattle.std.proofs.lemmas.Bool.{cases_lt}
 use Rattle.xc_alg.specs.Products.{product}
 use Rattle.xc_alg.proofs.Products.{product_laws}
 use Rattle.xc_product.specs.Heights.{AreHeights}
-use Rattle.xc_fixpoint.specs.Functions.{IsFunction, Agree}
+use Rattle.xc_fixpoint.specs.Functions.{Agree}
 use Rattle.xc_fixpoint.specs.Steps.{IsMonotone}
 use Rattle.xc_fixpoint.specs.Iterates.{iterate}
 use Rattle.xc_fixpoint.specs.Heights.{IsHeight}
@@ -18,7 +18,7 @@ use Rattle.xc_ctl.specs.Denotations.{AreDenotations}
 use Rattle.xc_ctl.specs.Rounds.{RoundsOf, IsRound, RoundsTable, IsTableFor}
 use Rattle.xc_ctl.specs.Laws.{TellTheSame, RoundsExist, RoundsAreUnique, RoundsAreFew}
 use Rattle.xc_ctl.specs.declared.kind.Kind.{Kind}
-use Rattle.xc_ctl.proofs.KindCases.{Which, which}
+use Rattle.xc_ctl.proofs.KindCases.{which}
 use Rattle.xc_ctl.proofs.KindCases.Which.{rises, falls, stays}
 use Rattle.xc_ctl.proofs.Monotone.{step_same}
 use Rattle.xc_ctl.proofs.Denoting.{ordered_child, denotations_agree, denotations_exist, node_monotone}
@@ -120,22 +120,23 @@ module _ (frame : Frame) (is : IsFrame frame) (nodes : List Kind) (ordered : are
 
     -- a table tells them
     table_some : (table : RoundsTable) × IsTableFor frame nodes table
-    table_some =
-        (record {
-          states = frame.states;
-          nodes = length nodes;
-          at = d;
-          rounds = λ i. told_rounds i (cases_lt i (length nodes));
-          round_at = λ i k. told_round i (cases_lt i (length nodes)) k;
-        },
-        record {
-          in_range = in_table;
-          same_states = refl;
-          same_nodes = refl;
-          denoted = are;
-          settled = λ i within. rounds_told i (cases_lt i (length nodes)) within;
-          iterates = λ i k within low. round_told i (cases_lt i (length nodes)) within k;
-        })
+    table_some = (
+      record {
+        states = frame.states;
+        nodes = length nodes;
+        at = d;
+        rounds = λ i. told_rounds i (cases_lt i (length nodes));
+        round_at = λ i k. told_round i (cases_lt i (length nodes)) k;
+      },
+      record {
+        in_range = in_table;
+        same_states = refl;
+        same_nodes = refl;
+        denoted = are;
+        settled = λ i within. rounds_told i (cases_lt i (length nodes)) within;
+        iterates = λ i k within low. round_told i (cases_lt i (length nodes)) within k;
+      },
+    )
 
   module _ (table other : RoundsTable) (h : IsTableFor frame nodes table) (k : IsTableFor frame nodes other) where
     -- two tables tell the same of nodes and states

@@ -33,7 +33,7 @@ some_next frame f s = join_codes frame.parts (weighed frame f s)
 abbrev pub all_next : Frame → (ℕ → ℕ) → ℕ → ℕ
 all_next frame f s = (product frame.parts).negation (some_next frame (λ t. (product frame.parts).negation (f t)) s)
 
--- what holds at all next states, of which there is one
+-- what holds at all next states and at some next state
 abbrev pub all_and_some_next : Frame → (ℕ → ℕ) → ℕ → ℕ
 all_and_some_next frame f s = (product frame.parts).meet (all_next frame f s) (some_next frame f s)
 

@@ -77,7 +77,7 @@ pub record TellTheSame (frame : Frame) (nodes : List Kind) (table other : Rounds
 abbrev pub RoundsAreUnique : Type 0
 RoundsAreUnique = OfTables (λ frame nodes. (table other : RoundsTable) → IsTableFor frame nodes table → IsTableFor frame nodes other → TellTheSame frame nodes table other)
 
--- the rounds of a node are at most the number of states times the height of the product
+-- no node has more rounds than each state could rise by all steps of a longest chain
 abbrev pub RoundsAreFew : Type 0
 RoundsAreFew =
     OfTables (λ frame nodes. (table : RoundsTable) (heights : List ℕ) → IsTableFor frame nodes table → AreHeights frame.parts heights → (i : ℕ) → i < length nodes → table.rounds i ≤ frame.states * sum heights)

@@ -1,8 +1,7 @@
 -- The steps by which a formula that is written out is printed.
 -- Words for the steps of the code: public clauses do not rest on them.
-use Rattle.std.specs.Prelude.{ℕ, ◌+◌, Bool, ◌&&◌, ◌||◌, nat_lt, if◌then◌else◌, List, [], ◌∷◌, ◌++◌, drop, codes}
+use Rattle.std.specs.Prelude.{ℕ, Bool, ◌&&◌, ◌||◌, nat_lt, if◌then◌else◌, List, [], ◌∷◌, ◌++◌, drop, codes}
 use Rattle.xc_theory.specs.Codes.{digits}
-use Rattle.xc_base.specs.Names.{name_at}
 use Rattle.xc_ctl.specs.Written.{listed}
 use Rattle.xc_ctl.specs.Texts.{is_and, is_or, digit_names}
 use Rattle.xc_ctl.specs.Trees.{Tree, Const, Atom, Not, And, Or, Ex, Eu, Au, Eg, sizes_of}

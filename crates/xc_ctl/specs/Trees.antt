@@ -61,8 +61,8 @@ digits_named (names ∷ parts) (v ∷ values) = both (λ digit row. digit ∷ ro
 abbrev pub element_named : List (List (List ℕ)) → List (List ℕ) → Option ℕ
 element_named parts values = option_map (code_of (sizes_of parts)) (digits_named parts values)
 
--- A formula behind a prefix, written out: `AX f` is `!EX!f`, `EF f` is `E[true U f]`, `AF f` is `A[true U f]`, and `AG f` is
--- `!E[true U !f]`.
+-- A formula behind a prefix, in terms of `!`, `EX`, `EG` and the two untils: "at all next states" and "always, on all paths" by the
+-- negation of what they exclude, "some time" as an until with nothing to hold before.
 abbrev pub prefixed : ℕ → Prefix → Tree → Tree
 prefixed top Negation t = Not t
 prefixed top SomeNext t = Ex t
@@ -77,7 +77,7 @@ abbrev pub until : Paths → Tree → Tree → Tree
 until SomePath s t = Eu s t
 until EveryPath s t = Au s t
 
--- A formula written out, where its names are known: `a -> b` is `!a | b`.
+-- A formula written out, where its names are known. An implication is a disjunction.
 abbrev pub resolved : Signature → Written → Option Tree
 resolved n True = Some (Const n.top)
 resolved n False = Some (Const n.bottom)

@@ -14,7 +14,7 @@ pub fn formulas_have_one_denotation()
 {}
 
 /// There is a table of rounds for every frame and every table of nodes that is in range there, and no two tell different things. The
-/// rounds of a node are at most the number of states times the height of the product.
+/// rounds of a node are no more than the states, each counted with all steps of a longest chain.
 #[tactic(auto, using(crate::proofs::RoundTables::rounds_exist, crate::proofs::RoundTables::rounds_are_unique, crate::proofs::RoundTables::rounds_are_few))]
 pub fn formulas_have_one_table()
     ensures exist { RoundsExist }

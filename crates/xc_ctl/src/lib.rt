@@ -32,4 +32,6 @@ pub use rounds::Rounds;
 pub use verdict::files_have_one_reading;
 
 #[cfg(test)]
+mod machine_tests;
+#[cfg(test)]
 mod tests;

@@ -4,11 +4,15 @@ ghost use Rattle.std.specs.Prelude.{◌≡◌, IfOk, ◌∷◌, [], codes};
 
 use crate::formula::Formulas;
 use crate::kind::Kind;
+use crate::parser::parse_formula;
+use crate::printer::text_of;
 use crate::reader::read_formulas;
+use crate::resolver::resolve;
+use crate::vocabulary::Vocabulary;
 use std::alloc::{AllocError, Global};
 use std::fmt::Write;
 use std::test::Fail;
-use xc_base::{FileFault, List, Memory, Stop, Word, cut_lines};
+use xc_base::{Bytes, FileFault, Lexeme, List, Memory, Stop, Word, cut_lines};
 
 const LONG: &[u8] = b"a_name_that_has_thirty_two_bytes";
 
@@ -150,6 +154,61 @@ fn formulas_have_their_tables(rt: HostRuntime) -> Result<(), Fail> {
     Ok(())
 }
 
+/// The printed text of the formula that the tokens are.
+fn text_in(
+    alloc: Global,
+    vocabulary: &Vocabulary,
+    tokens: &[Lexeme],
+) -> Result<Option<Bytes>, Memory> {
+    let Some(phrase) = parse_formula(alloc, tokens)? else {
+        return Ok(None);
+    };
+    let Some(tree) = resolve(alloc, &phrase, vocabulary)? else {
+        return Ok(None);
+    };
+    Ok(Some(text_of(alloc, &tree, vocabulary)?))
+}
+
+/// That of the formula on the first line.
+fn printed(alloc: Global, text: &[u8]) -> Result<Option<Bytes>, Fail> {
+    let props = props(alloc)?;
+    let parts = parts(alloc)?;
+    let lines = cut_lines(alloc, text, 65_536)?;
+    if lines.len() == 0 {
+        return Ok(None);
+    }
+    let vocabulary = Vocabulary {
+        props: &props,
+        parts: &parts,
+        bottom: 0,
+        top: 5,
+    };
+    let tokens = lines.lexemes(alloc, 0)?;
+    Ok(text_in(alloc, &vocabulary, tokens.as_slice())?)
+}
+
+#[test]
+fn formulas_are_printed(rt: HostRuntime) -> Result<(), Fail> {
+    let alloc = rt.alloc();
+    for (text, want) in [
+        ("EF p", "E[true U p]"),
+        ("AG EF p", "!E[true U!E[true U p]]"),
+        ("E[p U q]", "E[p U q]"),
+        ("A[p U E[q U r]]", "A[p U E[q U r]]"),
+        ("AF !p", "A[true U!p]"),
+        ("p -> EG !q", "!p|EG!q"),
+        ("EG (p & q)", "EG(p&q)"),
+        ("E[p | q U (q -> {T,M}) & r]", "E[p|q U(!q|{T,M})&r]"),
+    ] {
+        let got = printed(alloc, text.as_bytes())?;
+        assert!(rt;
+            matches!(&got, Some(got) if got.as_slice() == want.as_bytes()),
+            "{text}"
+        );
+    }
+    Ok(())
+}
+
 #[test]
 fn files_have_their_first_fault(rt: HostRuntime) -> Result<(), Fail> {
     let alloc = rt.alloc();
@@ -222,9 +281,9 @@ fn limits_are_kept(rt: HostRuntime) -> Result<(), Fail> {
         // 512 around each other
         (b"(", b"p", b")", 512, 512, "1 formulas, 1 nodes"),
         (b"(", b"p", b")", 513, 513, "NoStatement 1"),
-        (b"E[p U", b"p", b"]", 127, 127, "1 formulas, 255 nodes"),
-        (b"E[p U", b"p", b"]", 512, 512, "Nodes 1 1025"),
-        (b"E[p U", b"p", b"]", 513, 513, "NoStatement 1"),
+        (b"E[p U ", b"p", b"]", 127, 127, "1 formulas, 255 nodes"),
+        (b"E[p U ", b"p", b"]", 512, 512, "Nodes 1 1025"),
+        (b"E[p U ", b"p", b"]", 513, 513, "NoStatement 1"),
         // 256 nodes
         (b"AG ", b"p", b"", 64, 0, "Nodes 1 257"),
         (b"!", b"p", b"", 255, 0, "1 formulas, 256 nodes"),

@@ -47,12 +47,7 @@ fn some_globally(alloc: Global, tree: Option<Tree>) -> Result<Option<Tree>, Memo
     }
 }
 
-fn joined_until(
-    alloc: Global,
-    paths: Paths,
-    left: Tree,
-    right: Tree,
-) -> Result<Tree, Memory>
+fn joined_until(alloc: Global, paths: Paths, left: Tree, right: Tree) -> Result<Tree, Memory>
     ensures { IfOk result (λ t. tree_of t ≡ until paths (tree_of left) (tree_of right)) }
 {
     let left = Box::new(alloc, left)?;
@@ -120,7 +115,11 @@ pub(crate) fn prefixed(
     }
 }
 
-pub(crate) fn and(alloc: Global, left: Option<Tree>, right: Option<Tree>) -> Result<Option<Tree>, Memory>
+pub(crate) fn and(
+    alloc: Global,
+    left: Option<Tree>,
+    right: Option<Tree>,
+) -> Result<Option<Tree>, Memory>
     ensures { IfOk result
         (λ t. option_map tree_of t ≡ both And (option_map tree_of left) (option_map tree_of right)) }
 {
@@ -133,7 +132,11 @@ pub(crate) fn and(alloc: Global, left: Option<Tree>, right: Option<Tree>) -> Res
     }
 }
 
-pub(crate) fn or(alloc: Global, left: Option<Tree>, right: Option<Tree>) -> Result<Option<Tree>, Memory>
+pub(crate) fn or(
+    alloc: Global,
+    left: Option<Tree>,
+    right: Option<Tree>,
+) -> Result<Option<Tree>, Memory>
     ensures { IfOk result
         (λ t. option_map tree_of t ≡ both Or (option_map tree_of left) (option_map tree_of right)) }
 {
@@ -147,7 +150,11 @@ pub(crate) fn or(alloc: Global, left: Option<Tree>, right: Option<Tree>) -> Resu
 }
 
 #[tactic(auto, using(crate::proofs::WrittenOut::implies_is))]
-pub(crate) fn implies(alloc: Global, left: Option<Tree>, right: Option<Tree>) -> Result<Option<Tree>, Memory>
+pub(crate) fn implies(
+    alloc: Global,
+    left: Option<Tree>,
+    right: Option<Tree>,
+) -> Result<Option<Tree>, Memory>
     ensures { IfOk result
         (λ t. option_map tree_of t
         ≡ both (λ f g. Or (Not f) g) (option_map tree_of left) (option_map tree_of right)) }

@@ -1,4 +1,4 @@
--- Fixpoints of a step. These definitions know nothing of iteration.
+-- Fixpoints of a step, of which the least and the greatest are told by comparison with all others.
 use Rattle.std.specs.Prelude.{ℕ, Bool, true, false}
 use Rattle.xc_alg.specs.Operations.{Operations}
 use Rattle.xc_fixpoint.specs.Functions.{IsFunction, Agree, AreBefore}

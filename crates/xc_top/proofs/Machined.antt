@@ -1,11 +1,11 @@
 -- What the merged machine of the code has, in the words of these proofs.
-use Rattle.std.proofs.Common.{◌≡◌, ℕ, ◌≤◌, true, List, [], ◌∷◌, ◌++◌, length, map, sum, Result, Ok, Err, IfOk, sym, ◌∙◌, ap, subst, arith}
+use Rattle.std.proofs.Common.{◌≡◌, ℕ, suc, ◌<◌, ◌≤◌, true, List, [], ◌∷◌, ◌++◌, length, map, get_or, sum, Result, Ok, Err, IfOk, sym, ◌∙◌, ap, subst, arith}
 use Rattle.std.specs.List.{list_all}
 use Rattle.std.proofs.lemmas.List.{length-map}
 use Rattle.xc_theory.specs.Codes.{total}
 use Rattle.xc_alg.specs.Products.{product, sizes}
-use Rattle.xc_merge.specs.Merges.{Merge, Viewpoint, parts_of, names_of_parts}
-use Rattle.xc_machine.specs.Framed.{IsFit, AreFit}
+use Rattle.xc_merge.specs.Merges.{Merge, Viewpoint, nobody, viewpoint_at, parts_of, names_of_parts}
+use Rattle.xc_machine.specs.Tabled.{IsGood as IsFit}
 use Rattle.xc_product.specs.Products.{parts_of as parts_in}
 use Rattle.xc_product.specs.declared.product.Product.{Product}
 use Rattle.xc_product.specs.Heights.{AreHeights}
@@ -22,11 +22,13 @@ use Rattle.xc_top.specs.declared.status.Status.TheVariants.{Done}
 use Rattle.xc_top.proofs.Lattices.{IsNamed, AreNamed, some_heights}
 
 -- its lattices are lawful and small, with different names
-all_named : (found : List Viewpoint) → AreFit found → AreNamed found
+all_named : (found : List Viewpoint) → ((v : ℕ) → v < length found → IsFit (get_or found v nobody).lattice) → AreNamed found
 all_named [] are = tt
-all_named (p ∷ found) are = (record { lawful = are.0.lawful; named = are.0.named; different = are.0.different; some = are.0.some; few = are.0.few }, all_named found are.1)
+all_named (p ∷ found) are =
+    let here = are 0 (omega arith) in
+    (record { lawful = here.lawful; named = here.named; different = here.different; some = here.some; few = here.few }, all_named found (λ v low. are (suc v) (omega arith)))
 
-pub are_named : (m : Merge) → AreFit m.viewpoints → AreNamed m.viewpoints
+pub are_named : (m : Merge) → ((v : ℕ) → v < length m.viewpoints → IsFit (viewpoint_at m v).lattice) → AreNamed m.viewpoints
 are_named m are = all_named m.viewpoints are
 
 -- a product of its lattices has as many parts as there are viewpoints, and as many elements
@@ -46,7 +48,7 @@ range_kept m parts props (Ok fs) same are many h =
     (subst (λ (ps : List (List ℕ)). list_all (is_table_in (total (sizes_of parts)) (length ps)) (nodes_in fs) ≡ true) are h)
 
 -- the text of the machine and of formulas is a report
-pub reported : (m : Merge) (formulas : List (List Kind)) (line text : List ℕ) → AreFit m.viewpoints → ((heights : List ℕ) → AreHeights (parts_of m) heights → line ≡ map_text m (sum heights)) → AddsBlocks m formulas line text → Reports m formulas (Served Done text)
+pub reported : (m : Merge) (formulas : List (List Kind)) (line text : List ℕ) → ((v : ℕ) → v < length m.viewpoints → IsFit (viewpoint_at m v).lattice) → ((heights : List ℕ) → AreHeights (parts_of m) heights → line ≡ map_text m (sum heights)) → AddsBlocks m formulas line text → Reports m formulas (Served Done text)
 reported m formulas line text fit head blocks =
     let heights = some_heights m (are_named m fit) in
     record {

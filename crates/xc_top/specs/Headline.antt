@@ -31,7 +31,7 @@ pub record GetsLine (line : List ℕ) (old new : Sunk) : Type 0 where
   pub front : AddsFront line old.bytes new.bytes
   pub whole : has_risen old.faults new.faults ≡ false → has_risen old.wants new.wants ≡ false → AddsWhole line old.bytes new.bytes
 
--- Words that are no request, and only those, have the status Words or Memory, and nothing is written to out.
+-- The status is Words exactly where the words are no request, but for want of memory; and then nothing is written to out.
 pub record AnswersNoRequest (words : List (List ℕ)) (old new : Sunk) (status : Status) : Type 0 where
   pub only : status ≡ Words → request_of words ≡ None
   pub always : request_of words ≡ None → status ≢ Memory → status ≡ Words

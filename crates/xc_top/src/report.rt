@@ -11,6 +11,7 @@ ghost use Rattle.xc_merge.specs.Merges.{parts_of, names_of_parts};
 ghost use Rattle.xc_merge.specs.Projections.{states_of};
 ghost use Rattle.xc_merge.specs.MergedFrames.{merged_frame};
 ghost use Rattle.xc_machine.specs.Machines.{merge_of};
+ghost use Rattle.xc_plain.specs.Steps.{AreStepsOf};
 ghost use Rattle.xc_ctl.specs.FormulaFiles.{formula_format, IsStop};
 ghost use Rattle.xc_ctl.specs.Formulas.{nodes_in};
 ghost use Rattle.xc_ctl.specs.Trees.{is_fit, sizes_of};
@@ -28,7 +29,7 @@ use xc_alg::{Algebra, laws_hold};
 use xc_base::{Lines, Memory as NoMemory, Stop};
 use xc_ctl::{Formula, Formulas};
 use xc_machine::Machine;
-use xc_plain::solve;
+use xc_plain::{Steps, solve};
 use xc_product::Product;
 
 /// What the formulas of a check are about is fit to be read.
@@ -63,19 +64,31 @@ pub(crate) fn read_tables(
     )
 }
 
+/// The steps of a machine.
+#[tactic(auto, unfolding(xc_merge::specs::MergedFrames::merged_frame))]
+fn steps_of(alloc: Global, machine: &Machine) -> Result<Steps, NoMemory>
+    requires { states_of (merge_of machine.now).plan ≤ state_limit }
+    ensures { IfOk result (λ steps. AreStepsOf (merged_frame (merge_of machine.now)) steps) }
+{
+    Steps::of(alloc, machine)
+}
+
 /// Evaluates a formula, and appends what is told of it.
+#[tactic(auto, unfolding(xc_merge::specs::MergedFrames::merged_frame))]
 fn push_formula(
     alloc: Global,
     text: &mut String,
     machine: &Machine,
+    steps: &Steps,
     number: usize,
     formula: &Formula,
 ) -> Result<(), NoMemory>
     requires few { states_of (merge_of machine.now).plan ≤ state_limit }
+    requires steps { AreStepsOf (merged_frame (merge_of machine.now)) steps.now }
     requires range { is_table_in (product (parts_of (merge_of machine.now))).size (length (merge_of machine.now).plan.props) formula.now.nodes ≡ true }
     ensures { OnOk result (AddsBlock (merge_of machine.now) number formula.now.nodes (string_bytes text.old) (string_bytes text.new)) }
 {
-    let table = solve(alloc, machine, formula)?;
+    let table = solve(alloc, machine, steps, formula)?;
     push_block(alloc, text, machine, number, formula.nodes().as_slice(), &table)?;
     Ok(())
 }
@@ -85,14 +98,16 @@ fn push_formulas(
     alloc: Global,
     text: &mut String,
     machine: &Machine,
+    steps: &Steps,
     formulas: &[Formula],
 ) -> Result<(), NoMemory>
     requires few { states_of (merge_of machine.now).plan ≤ state_limit }
+    requires steps { AreStepsOf (merged_frame (merge_of machine.now)) steps.now }
     requires range { list_all (is_table_in (product (parts_of (merge_of machine.now))).size (length (merge_of machine.now).plan.props)) (map (λ f. f.nodes) formulas.now) ≡ true }
     ensures { OnOk result (AddsBlocks (merge_of machine.now) (map (λ f. f.nodes) formulas.now) (string_bytes text.old) (string_bytes text.new)) }
 {
     for i in 0..formulas.len() {
-        push_formula(alloc, text, machine, i + 1, &formulas[i])?;
+        push_formula(alloc, text, machine, steps, i + 1, &formulas[i])?;
     }
     Ok(())
 }
@@ -109,7 +124,8 @@ pub(crate) fn report(
 {
     machine.is_framed();
     let mut text = map_line(alloc, machine)?;
-    push_formulas(alloc, &mut text, machine, formulas.items.as_slice())?;
+    let steps = steps_of(alloc, machine)?;
+    push_formulas(alloc, &mut text, machine, &steps, formulas.items.as_slice())?;
     Ok(Answer {
         passed: Passed::Done,
         text,

@@ -9,7 +9,7 @@ use Rattle.xc_top.proofs.block.push_value.Goals as goal
 
 pub places_of-places-requires-clause-fit : goal.places_of-places-requires-clause-fit
 places_of-places-requires-clause-fit c =
-    subst (λ (vars : List Domain). are_fit vars ≡ true) (sym (c.vars-vars.ensures ∙ ap (λ (plan : MapValue). plan.vars) c.map.ensures)) (declared_parts (merge_of c.args.machine.now).plan c.is_framed.ensures.sound).fit
+    subst (λ (vars : List Domain). are_fit vars ≡ true) (sym (c.vars-vars.ensures ∙ ap (λ (plan : MapValue). plan.vars) c.map.ensures)) (declared_parts (merge_of c.args.machine.now).plan c.is_framed.ensures.map).fit
 
 pub push_state-requires-clause-row : goal.push_state-requires-clause-row
 push_state-requires-clause-row c =

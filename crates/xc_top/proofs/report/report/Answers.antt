@@ -9,5 +9,5 @@ use Rattle.xc_top.proofs.report.report.Goals as goal
 
 pub returns : goal.returns
 returns c =
-    reported (merge_of c.args.machine.now) _ (string_bytes c.in_ok-text.text) (string_bytes c.push_formulas.new.text) c.is_framed.ensures.fit c.in_ok-text.ensures
+    reported (merge_of c.args.machine.now) _ (string_bytes c.in_ok-text.text) (string_bytes c.push_formulas.new.text) c.is_framed.ensures.lattices c.in_ok-text.ensures
     (subst (λ (fs : List Formula). AddsBlocks (merge_of c.args.machine.now) (map (λ (f : Formula). f.nodes) fs) (string_bytes c.in_ok-text.text) (string_bytes c.push_formulas.new.text)) c.as_slice.ensures c.in_ok-push_formulas.ensures)

@@ -1,0 +1,60 @@
+use Rattle.std.proofs.Common.{◌≡◌, ℕ, true, List, [], ◌∷◌, length, map, take, ap, sym, subst, refl, ◌∙◌, arith}
+use Rattle.std.proofs.lemmas.List.{length-map}
+use Rattle.xc_expr.specs.Tests.{Test, holds_at, is_in_range}
+use Rattle.xc_expr.specs.declared.domain.Domain.{Domain}
+use Rattle.xc_lattice.specs.Values.{value_of as lattice_of}
+use Rattle.xc_sigmap.specs.Maps.{value_of as map_of}
+use Rattle.xc_view.specs.Parts.{prop_value, command_value}
+use Rattle.xc_view.specs.Views.{value_of as view_of}
+use Rattle.xc_merge.specs.Merges.{Viewpoint}
+use Rattle.xc_merge.specs.Merging.{viewpoint_of}
+use Rattle.xc_merge.specs.MergedFrames.{is_initial_for, step_digit, prop_digit}
+use Rattle.xc_machine.proofs.Merging.{viewpoint_is, state_digits, seen_row, seen_length, seen_count, seen_places, digits_pair, initial_for_is, operations_size, weights_sized}
+use Rattle.xc_machine.proofs.Sound.{sound_parts, guards_in, actions_in, tests_in}
+use Rattle.std.specs.List.{range_with_len}
+use Rattle.xc_machine.specs.Descent.{known_by, IsJudgedFor}
+use Rattle.xc_machine.specs.Judging.{IsRight, judged}
+use Rattle.xc_machine.proofs.Seeing.{vars_few, seen_digits}
+use Rattle.xc_machine.proofs.Descending.{judged_is, known-length}
+use Rattle.xc_theory.proofs.Codes.{digits_are_in_range}
+use Rattle.xc_expr.specs.Variables.{sizes_of}
+use Rattle.xc_machine.proofs.merged.Merged.judge_for.Goals as goal
+
+pub known-read-requires : goal.known-read-requires
+known-read-requires c =
+    let are = c.args.self.now.tabled c.args.v c.get-pair.result.now c.get-tables.result.now c.requires.v c.get-pair.ensures c.get-tables.ensures in
+    omega (arith, are.feeds.count, vars_few (view_of c.get-pair.result.now.0).vars (sound_parts (view_of c.get-pair.result.now.0) c.is_sound.ensures).fit)
+
+pub slice_bounds-seen-end : goal.slice_bounds-seen-end
+slice_bounds-seen-end c = seen_count c.args.self.now.sigmap c.args.self.now.views c.args.v c.get-pair.result.now c.args.row.now c.seen-places.result c.vars-vars.result.now c.len-count.result c.requires.v c.get-pair.ensures c.seen-places.ensures.seen c.vars-vars.ensures c.len-count.ensures
+
+pub slice_bounds-known-end : goal.slice_bounds-known-end
+slice_bounds-known-end c =
+    let are = c.args.self.now.tabled c.args.v c.get-pair.result.now c.get-tables.result.now c.requires.v c.get-pair.ensures c.get-tables.ensures in
+    let count : c.len-count.result ≡ length c.get-tables.result.now.feeds = c.len-count.ensures ∙ ap length c.vars-vars.ensures ∙ sym are.feeds.count in
+    sym (known-length c.get-tables.result.now.feeds c.args.depth c.known-read.result c.len-count.result count c.known-read.ensures)
+
+pub judge-requires-clause-guard : goal.judge-requires-clause-guard
+judge-requires-clause-guard c = rw (c.vars-vars.ensures, c.init.ensures) (sound_parts (view_of c.get-pair.result.now.0) c.is_sound.ensures).begins
+
+pub judge-requires-clause-places : goal.judge-requires-clause-places
+judge-requires-clause-places c = seen_length c.args.self.now.sigmap c.args.self.now.views c.args.v c.get-pair.result.now c.args.row.now c.seen-places.result c.vars-vars.result.now c.len-count.result c.requires.v c.get-pair.ensures c.seen-places.ensures.seen c.vars-vars.ensures c.len-count.ensures
+
+pub judge-requires-clause-known : goal.judge-requires-clause-known
+judge-requires-clause-known c =
+    let are = c.args.self.now.tabled c.args.v c.get-pair.result.now c.get-tables.result.now c.requires.v c.get-pair.ensures c.get-tables.ensures in
+    let count : c.len-count.result ≡ length c.get-tables.result.now.feeds = c.len-count.ensures ∙ ap length c.vars-vars.ensures ∙ sym are.feeds.count in
+    known-length c.get-tables.result.now.feeds c.args.depth c.known-read.result c.len-count.result count c.known-read.ensures ∙ c.len-count.ensures
+
+pub returns : goal.returns
+returns c =
+    let are = c.args.self.now.tabled c.args.v c.get-pair.result.now c.get-tables.result.now c.requires.v c.get-pair.ensures c.get-tables.ensures in
+    let count : c.len-count.result ≡ length c.get-tables.result.now.feeds = c.len-count.ensures ∙ ap length c.vars-vars.ensures ∙ sym are.feeds.count in
+    record {
+      right = λ s low shares.
+          rw (viewpoint_is c.args.self.now.sigmap c.args.self.now.views c.args.v c.get-pair.result.now c.requires.v c.get-pair.ensures, c.judge.ensures, c.init.ensures)
+          (judged_is (map_of c.args.self.now.sigmap) c.args.v (viewpoint_of c.get-pair.result.now) c.get-tables.result.now c.args.row.now c.args.depth are c.requires.row s _ _ shares
+          (seen_digits (map_of c.args.self.now.sigmap) c.args.v (viewpoint_of c.get-pair.result.now) c.get-tables.result.now _ are (digits_are_in_range (sizes_of (map_of c.args.self.now.sigmap).vars) s low))
+          (seen_row c.args.self.now.sigmap c.args.self.now.views c.args.v c.get-pair.result.now c.args.row.now c.seen-places.result c.vars-vars.result.now c.len-count.result c.requires.v c.get-pair.ensures c.seen-places.ensures.seen c.vars-vars.ensures c.len-count.ensures)
+          (ap (λ (n : ℕ). take n c.known-read.result) count ∙ c.known-read.ensures));
+    }

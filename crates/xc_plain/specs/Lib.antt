@@ -1,0 +1,7 @@
+pub mod Successors
+pub mod Steps
+pub mod Told
+pub mod Settled
+pub mod Nodes
+pub mod Tables
+pub mod Machines

@@ -1,0 +1,66 @@
+//! What formulas denote on a machine.
+
+ghost use Rattle.std.specs.Prelude.{◌≡◌, ◌<◌, ◌≤◌, ◌*◌, ℕ, true, List, length, IfOk};
+ghost use Rattle.std.specs.List.{sum};
+ghost use Rattle.xc_alg.specs.Products.{product};
+ghost use Rattle.xc_product.specs.Heights.{AreHeights};
+ghost use Rattle.xc_fixpoint.specs.Functions.{Agree};
+ghost use Rattle.xc_ctl.specs.Denotations.{AreDenotations};
+ghost use Rattle.xc_ctl.specs.Rounds.{IsTableFor};
+ghost use Rattle.xc_ctl.specs.Tables.{is_table_in, are_ordered_from};
+ghost use Rattle.xc_plain.specs.Successors.{AreRowsOf};
+ghost use Rattle.xc_plain.specs.Steps.{AreStepsOf};
+ghost use Rattle.xc_plain.specs.Nodes.{AreTold};
+ghost use Rattle.xc_plain.specs.Tables.{table_of};
+
+use crate::node::node_rows;
+use crate::row::Row;
+use crate::steps::Steps;
+use crate::table::PlainTable;
+use std::alloc::Global;
+use xc_base::{List, Memory};
+use xc_ctl::{Formula, Framed, Kind};
+
+/// The rows of all nodes. Children stand before their parents.
+#[tactic(auto, using(crate::proofs::Tabling::safe_told, crate::proofs::Tabling::rows_told, crate::proofs::Tabling::child_first, crate::proofs::Tabling::kind_first, crate::proofs::Tabling::nothing_told))]
+fn all_rows<M: Framed>(
+    alloc: Global,
+    model: &M,
+    rows: &[Row],
+    nodes: &[Kind],
+) -> Result<List<List<List<u16>>>, Memory>
+    requires few { (M.frame model.now).states ≤ 4096 }
+    requires rows { AreRowsOf (M.frame model.now) rows.now }
+    requires ordered { are_ordered_from 0 nodes.now ≡ true }
+    requires range { is_table_in (product (M.frame model.now).parts).size (M.frame model.now).props nodes.now ≡ true }
+    ensures count { IfOk result (λ table. length table ≡ length nodes.now) }
+    ensures told { IfOk result (λ table. AreTold (M.frame model.now) nodes.now table) }
+{
+    let mut table = List::new(alloc);
+    for kind in nodes {
+        let new = node_rows(alloc, model, rows, table.as_slice(), *kind)?;
+        table.push(new)?;
+    }
+    Ok(table)
+}
+
+/// What each node of a formula denotes on a machine, and the rounds in which its fixpoints are reached: the iterates of each
+/// up to the first that a step leaves as it is. No two such tables differ, and the rounds of a node are at most the number
+/// of states times the height of the algebra.
+pub fn solve<M: Framed>(
+    alloc: Global,
+    model: &M,
+    steps: &Steps,
+    formula: &Formula,
+) -> Result<PlainTable, Memory>
+    requires few { (M.frame model.now).states ≤ 4096 }
+    requires range { is_table_in (product (M.frame model.now).parts).size (M.frame model.now).props formula.now.nodes ≡ true }
+    requires steps { AreStepsOf (M.frame model.now) steps.now }
+    ensures table { IfOk result (λ t. IsTableFor (M.frame model.now) formula.now.nodes (table_of t)) }
+    ensures unique { IfOk result (λ t. (d : ℕ → ℕ → ℕ) → AreDenotations (M.frame model.now) formula.now.nodes d → (i : ℕ) → i < length formula.now.nodes → Agree (M.frame model.now).states (d i) ((table_of t).at i)) }
+    ensures few_rounds { IfOk result (λ t. (heights : List ℕ) → AreHeights (M.frame model.now).parts heights → (i : ℕ) → i < length formula.now.nodes → (table_of t).rounds i ≤ (M.frame model.now).states * sum heights) }
+{
+    let nodes = formula.nodes().as_slice();
+    let table = all_rows(alloc, model, steps.rows.as_slice(), nodes)?;
+    Ok(PlainTable::of(model.states(), table))
+}
