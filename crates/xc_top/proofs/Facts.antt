@@ -82,6 +82,6 @@ unfolding first_meet first_join product
 signature_of_pair = (refl, refl, refl)
 
 pub check_lines : (map_text pair 3 ≡ lines (codes "map pair states " ++ decimal 2 ++ codes " elements " ++ decimal 6 ++ codes " height " ++ decimal 3 ++ codes " initial " ++ decimal 1)) × (value_text pair (λ s. 4) 0 ≡ lines (codes "value " ++ decimal 0 ++ codes " x=0" ++ 32 ∷ 84 ∷ 44 ∷ 77 ∷ []))
-    × (block_text pair 1 (Atom 0 ∷ Ex 0 ∷ []) told ≡ lines (codes "formula " ++ decimal 1) ++ (lines (codes "value " ++ decimal 0 ++ codes " x=0" ++ 32 ∷ 84 ∷ 44 ∷ 77 ∷ []) ++ [])) × (rounds_text 2 3 (Some (codes "EU")) ≡ lines (codes "rounds " ++ decimal 2 ++ 32 ∷ codes "EU" ++ 32 ∷ decimal 3))
+    × (block_text pair 1 (Atom 0 ∷ Ex 0 ∷ []) told ≡ lines (codes "formula " ++ decimal 1) ++ [] ++ (lines (codes "value " ++ decimal 0 ++ codes " x=0" ++ 32 ∷ 84 ∷ 44 ∷ 77 ∷ []) ++ [])) × (rounds_text 2 3 (Some (codes "EU")) ≡ lines (codes "rounds " ++ decimal 2 ++ 32 ∷ codes "EU" ++ 32 ∷ decimal 3))
 unfolding initials_of product
 check_lines = (refl, refl, refl, refl)

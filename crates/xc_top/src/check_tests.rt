@@ -112,16 +112,17 @@ fn values_of_formulas(rt: HostRuntime) -> Result<(), Fail> {
         (
             "pair.map",
             [PAIR].as_slice(),
-            "EX p\nAX p\n",
+            "EX p\nAX p\nEF p\n",
             "map pair states 2 elements 6 height 3 initial 1\n\
-            formula 1\nvalue 0 x=0 T,M\nformula 2\nvalue 0 x=0 T,T\n",
+            formula 1\nvalue 0 x=0 T,M\nformula 2\nvalue 0 x=0 T,T\n\
+            formula 3\nrounds 2 EU 2\nvalue 0 x=0 T,M\n",
         ),
         (
             "dead.map",
             [DEAD].as_slice(),
-            "AX false\nEX true\np\n",
+            "AX false\nEX true\nAF p\n",
             "map dead states 2 elements 2 height 1 initial 1\n\
-            formula 1\nvalue 0 x=0 T\nformula 2\nvalue 0 x=0 F\nformula 3\nvalue 0 x=0 F\n",
+            formula 1\nvalue 0 x=0 T\nformula 2\nvalue 0 x=0 F\nformula 3\nrounds 2 AU 1\nvalue 0 x=0 F\n",
         ),
         (
             "still.map",
@@ -138,9 +139,13 @@ fn values_of_formulas(rt: HostRuntime) -> Result<(), Fail> {
         (
             "house.map",
             house.as_slice(),
-            "EX lit\n",
-            "map house states 4 elements 24 height 5 initial 2\nformula 1\n\
-            value 0 door=shut lamp=off F,F,T\nvalue 1 door=shut lamp=on T,N,T\n",
+            "EF lit\nAG safe\nEX lit\nEG !lit\nlit -> AX safe\n",
+            "map house states 4 elements 24 height 5 initial 2\n\
+            formula 1\nrounds 2 EU 3\nvalue 0 door=shut lamp=off M,N,T\nvalue 1 door=shut lamp=on T,T,T\n\
+            formula 2\nrounds 3 EU 2\nvalue 0 door=shut lamp=off F,T,T\nvalue 1 door=shut lamp=on M,T,T\n\
+            formula 3\nvalue 0 door=shut lamp=off F,F,T\nvalue 1 door=shut lamp=on T,N,T\n\
+            formula 4\nrounds 2 EG 1\nvalue 0 door=shut lamp=off T,N,T\nvalue 1 door=shut lamp=on F,F,F\n\
+            formula 5\nvalue 0 door=shut lamp=off T,T,T\nvalue 1 door=shut lamp=on M,T,T\n",
         ),
     ] {
         let files = [one(sigmap, texts), one("x.ctl", [formulas].as_slice())];

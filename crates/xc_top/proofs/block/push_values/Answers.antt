@@ -4,15 +4,15 @@ use Rattle.xc_top.proofs.Telling.{initial_at, state_there, value_there}
 use Rattle.xc_top.proofs.block.push_values.Goals as goal
 
 pub push_value-requires-clause-state : goal.push_value-requires-clause-state
-push_value-requires-clause-state g c = initial_at (merge_of c.args.machine.now) c.as_slice-state-items.result.now c.loop-state.state-index (c.as_slice-state-items.ensures ∙ c.initials.ensures) c.loop-state-test.true
+push_value-requires-clause-state g c = initial_at (merge_of c.args.machine.now) c.as_slice-state-items.result.now c.loop-state.state-index (c.as_slice-state-items.ensures ∙ c.initials.ensures.initials) c.loop-state-test.true
 
 pub at-requires-clause-state : goal.at-requires-clause-state
 at-requires-clause-state g c =
     state_there (merge_of c.args.machine.now) c.args.nodes.now (g.T.Rounds.table c.args.table.now) c.requires.table (get_or c.as_slice-state-items.result.now c.loop-state.state-index 0)
-    (initial_at (merge_of c.args.machine.now) c.as_slice-state-items.result.now c.loop-state.state-index (c.as_slice-state-items.ensures ∙ c.initials.ensures) c.loop-state-test.true)
+    (initial_at (merge_of c.args.machine.now) c.as_slice-state-items.result.now c.loop-state.state-index (c.as_slice-state-items.ensures ∙ c.initials.ensures.initials) c.loop-state-test.true)
 
 pub push_value-requires-clause-element : goal.push_value-requires-clause-element
 push_value-requires-clause-element g c =
     rw c.at.ensures
     (value_there (merge_of c.args.machine.now) c.args.nodes.now (g.T.Rounds.table c.args.table.now) c.requires.table c.args.node (get_or c.as_slice-state-items.result.now c.loop-state.state-index 0) c.requires.node
-    (initial_at (merge_of c.args.machine.now) c.as_slice-state-items.result.now c.loop-state.state-index (c.as_slice-state-items.ensures ∙ c.initials.ensures) c.loop-state-test.true))
+    (initial_at (merge_of c.args.machine.now) c.as_slice-state-items.result.now c.loop-state.state-index (c.as_slice-state-items.ensures ∙ c.initials.ensures.initials) c.loop-state-test.true))
