@@ -1,20 +1,20 @@
 -- The rows that are kept tell the values of the transitions.
-use Rattle.std.proofs.Common.{◌≡◌, ◌≢◌, ℕ, suc, ◌+◌, ◌-◌, ◌<◌, ◌≤◌, List, [], ◌∷◌, ◌++◌, length, map, get_or, slice_index, refl, sym, ◌∙◌, ap, subst, arith, inl, inr, ◌⊎◌}
-use Rattle.std.specs.List.{range_with_len, slice_index_or}
+use Rattle.std.proofs.Common.{◌≡◌, ◌≢◌, ℕ, ◌+◌, ◌-◌, ◌*◌, ◌<◌, ◌≤◌, List, [], ◌∷◌, ◌++◌, length, map, get_or, slice_index, refl, sym, ◌∙◌, ap, subst, arith, inl, inr, ◌⊎◌}
+use Rattle.std.specs.List.{range_with_len}
 use Rattle.std.proofs.lemmas.Bool.{cases_lt, cases_eq}
-use Rattle.std.proofs.lemmas.List.{get_or_append_left, get_or_push, length_push, get_or_default}
+use Rattle.std.proofs.lemmas.List.{get_or_append_left, get_or_push, length_push}
 use Rattle.xc_theory.specs.Lattices.{LatticeData}
 use Rattle.xc_alg.specs.Operations.{Operations, IsAlgebra}
 use Rattle.xc_alg.specs.Products.{product}
 use Rattle.xc_alg.specs.Bounds.{joined}
 use Rattle.xc_alg.proofs.AlgebraLaws.{meet_commutes, meet_with_bottom, join_commutes, join_with_bottom, joined_are_joins}
-use Rattle.xc_fixpoint.specs.Functions.{IsFunction, Agree}
+use Rattle.xc_fixpoint.specs.Functions.{IsFunction}
 use Rattle.xc_fixpoint.specs.Lists.{values}
 use Rattle.xc_fixpoint.proofs.Lists.{values_of_agree, values_in_list, elements_from}
 use Rattle.xc_plain.specs.declared.row.Successor.{Successor}
 use Rattle.xc_plain.specs.declared.row.Row.{Row}
 use Rattle.xc_plain.specs.declared.row.Row.TheVariants.{Few, Each}
-use Rattle.xc_plain.specs.Successors.{IsRow, AreSuccessors, few_joined, weighed_from, row_joined, IsSafe, IsRowOf, row_at}
+use Rattle.xc_plain.specs.Successors.{IsRow, AreSuccessors, few_joined, weighed_from, IsRowOf, row_at}
 use Rattle.xc_plain.proofs.Joining.{weighed_more}
 
 -- no successors
@@ -96,17 +96,18 @@ same_relation o n relation f row count e =
     ∙ ap (joined o) (values_of_agree n (λ t. o.meet (slice_index row t) (f t)) (λ t. o.meet (relation t) (f t)) (λ t low. ap (λ (x : ℕ). o.meet x (f t)) (values_in_list n relation row e t low)))
 
 pub row_of_each : (o : Operations) (n : ℕ) (relation : ℕ → ℕ) (row : List ℕ) → IsRow o.size n row → row ≡ values n relation → IsRowOf o n relation (Each row)
-row_of_each o n relation row is e = record { safe = is; told = λ f within. same_relation o n relation f row is.count e }
+row_of_each o n relation row is e = record { safe = is; small = omega (arith, is.count); told = λ f within. same_relation o n relation f row is.count e }
 
 pub row_of_few : (p q : List LatticeData) (n m : ℕ) (relation : ℕ → ℕ) (row read : List ℕ) (few : List Successor) → p ≡ q → read ≡ row → m ≡ length read → IsRow (product q).size n row → row ≡ values n relation
-    → AreSuccessors (product p).size m few → ((f : ℕ → ℕ) → IsFunction (product p) m f → few_joined (product p) f (product p).bottom few ≡ weighed_from (product p) (slice_index read) f 0 m) → IsRowOf (product q) n relation (Few few)
-row_of_few p q n m relation row read few e same sized is made are told =
+    → AreSuccessors (product p).size m few → ((f : ℕ → ℕ) → IsFunction (product p) m f → few_joined (product p) f (product p).bottom few ≡ weighed_from (product p) (slice_index read) f 0 m) → 2 * length few ≤ m → IsRowOf (product q) n relation (Few few)
+row_of_few p q n m relation row read few e same sized is made are told small =
     let count : m ≡ n = sized ∙ (ap length same ∙ is.count) in
     let safe : AreSuccessors (product q).size n few = subst (λ (k : ℕ). AreSuccessors (product q).size k few) count (subst (λ (parts : List LatticeData). AreSuccessors (product parts).size m few) e are) in
     let all : (f : ℕ → ℕ) → IsFunction (product q) m f → few_joined (product q) f (product q).bottom few ≡ weighed_from (product q) (slice_index read) f 0 m
     = subst (λ (parts : List LatticeData). (f : ℕ → ℕ) → IsFunction (product parts) m f → few_joined (product parts) f (product parts).bottom few ≡ weighed_from (product parts) (slice_index read) f 0 m) e told in
     record {
       safe = safe;
+      small = omega (arith, count, small);
       told = λ f within.
           all f (λ s low. within s (omega arith))
           ∙ (ap (λ (xs : List ℕ). weighed_from (product q) (slice_index xs) f 0 m) same ∙ (ap (weighed_from (product q) (slice_index row) f 0) (sized ∙ ap length same) ∙ same_relation (product q) n relation f row is.count made));

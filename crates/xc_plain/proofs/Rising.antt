@@ -1,5 +1,5 @@
 -- The steps of fixpoints are monotone, also as rows of transitions tell them.
-use Rattle.std.proofs.Common.{◌≡◌, ℕ, suc, ◌+◌, ◌<◌, ◌≤◌, List, [], ◌∷◌, length, slice_index, arith}
+use Rattle.std.proofs.Common.{ℕ, suc, List, [], ◌∷◌, length, slice_index, arith}
 use Rattle.xc_alg.specs.Operations.{Operations, IsAlgebra}
 use Rattle.xc_fixpoint.specs.Functions.{IsFunction}
 use Rattle.xc_fixpoint.specs.Steps.{Step, IsMonotone}

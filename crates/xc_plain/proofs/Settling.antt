@@ -1,5 +1,5 @@
 -- The loop over the iterates of a fixpoint.
-use Rattle.std.proofs.Common.{◌≡◌, ℕ, ◌+◌, ◌-◌, ◌*◌, ◌<◌, ◌≤◌, Bool, true, false, eqb, List, [], ◌∷◌, ◌++◌, length, slice_index, refl, sym, ap, subst, ◌∙◌, arith, inl, inr, ◌⊎◌}
+use Rattle.std.proofs.Common.{◌≡◌, ℕ, ◌+◌, ◌-◌, ◌*◌, ◌<◌, ◌≤◌, Bool, true, false, eqb, List, [], ◌∷◌, ◌++◌, length, slice_index, sym, ap, subst, ◌∙◌, arith, inl, inr, ◌⊎◌}
 use Rattle.std.specs.Cmp.Lexicographic.{pointwise}
 use Rattle.std.specs.List.{slice_index_or}
 use Rattle.std.proofs.lemmas.Slice.Eq.{slice_eq-Decides}
@@ -12,7 +12,6 @@ use Rattle.xc_fixpoint.specs.Functions.{Agree}
 use Rattle.xc_fixpoint.specs.Steps.{Step, IsMonotone}
 use Rattle.xc_fixpoint.specs.Iterates.{start, iterate, Settles}
 use Rattle.xc_fixpoint.specs.Lists.{values}
-use Rattle.xc_fixpoint.proofs.Lists.{length-values}
 use Rattle.xc_fixpoint.proofs.Rounds.{IsRound}
 use Rattle.xc_fixpoint.proofs.ListRounds.{first_list, next_list, list_leaves_less_of_size, last_list_settles}
 use Rattle.xc_plain.specs.Successors.{IsRow}

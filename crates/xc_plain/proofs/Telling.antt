@@ -1,38 +1,33 @@
 -- What the rows of a node tell, by the rows of its children.
-use Rattle.std.proofs.Common.{◌≡◌, ℕ, suc, ◌+◌, ◌-◌, ◌*◌, ◌<◌, ◌≤◌, Bool, true, false, ◌&&◌, nat_lt, List, [], ◌∷◌, ◌++◌, length, slice_index, refl, sym, ◌∙◌, ap, subst, arith, inl, inr, ◌⊎◌}
-use Rattle.std.specs.List.{slice_index_or}
+use Rattle.std.proofs.Common.{◌≡◌, ℕ, ◌-◌, ◌<◌, ◌≤◌, Bool, true, false, ◌&&◌, nat_lt, List, [], ◌∷◌, length, slice_index, refl, sym, ◌∙◌, ap, subst, arith}
 use Rattle.std.proofs.lemmas.Bool.{ltb-true, and_parts}
 use Rattle.std.proofs.lemmas.Nat.{mul-le}
 use Rattle.xc_theory.specs.Lattices.{LatticeData}
 use Rattle.xc_alg.specs.Operations.{Operations, IsAlgebra}
-use Rattle.xc_alg.specs.Products.{product, AreLawful}
+use Rattle.xc_alg.specs.Products.{product}
 use Rattle.xc_alg.specs.Tables.{entry}
-use Rattle.xc_alg.specs.Bounds.{joined}
 use Rattle.xc_alg.proofs.Products.{product_laws}
 use Rattle.xc_fixpoint.specs.Functions.{IsFunction, Agree}
 use Rattle.xc_fixpoint.specs.Steps.{Step, IsMonotone}
-use Rattle.xc_fixpoint.specs.Fixpoints.{IsFixpoint, IsExtremal}
+use Rattle.xc_fixpoint.specs.Fixpoints.{IsExtremal}
 use Rattle.xc_fixpoint.specs.Iterates.{iterate, Settles}
 use Rattle.xc_fixpoint.specs.Lists.{values}
-use Rattle.xc_fixpoint.proofs.Lists.{values_in_list, length-values}
-use Rattle.xc_fixpoint.proofs.Directions.{agree-function}
+use Rattle.xc_fixpoint.proofs.Lists.{values_in_list}
 use Rattle.xc_fixpoint.proofs.SameSteps.{AreSameSteps, same_steps-monotone, same_steps-iterate, same_steps-settles}
 use Rattle.xc_fixpoint.proofs.Iterates.{settled_is_extremal}
 use Rattle.xc_fixpoint.proofs.Settling.{unsettled_within_size}
 use Rattle.xc_fixpoint.proofs.Fixpoints.{agree-extremal}
 use Rattle.xc_ctl.specs.Frames.{Frame, IsFrame, some_next, step_at, is_least, is_greatest, is_fixpoint}
-use Rattle.xc_ctl.specs.Denotations.{Denotes}
-use Rattle.xc_ctl.specs.Rounds.{RoundsOf, IsRound}
 use Rattle.xc_ctl.specs.Tables.{first_child, second_child, has_children_below}
 use Rattle.xc_ctl.specs.declared.kind.Kind.{Kind}
-use Rattle.xc_ctl.specs.declared.kind.Kind.TheVariants.{Const, Atom, Not, And, Or, Ex, Eu, Au, Eg}
-use Rattle.xc_ctl.proofs.Monotone.{next_joined, some_next_monotone}
+use Rattle.xc_ctl.specs.declared.kind.Kind.TheVariants.{Eu, Au, Eg}
+use Rattle.xc_ctl.proofs.Monotone.{next_joined}
 use Rattle.xc_plain.specs.declared.row.Row.{Row}
 use Rattle.xc_plain.specs.declared.form.Form.{Form}
 use Rattle.xc_plain.specs.declared.form.Form.TheVariants.{SomeUntil, EachUntil, Always}
 use Rattle.xc_plain.specs.Successors.{IsRow, weighed_from, AreSafe, AreRowsOf, next_by}
-use Rattle.xc_plain.specs.Told.{all_next_by, step_by}
-use Rattle.xc_plain.specs.Settled.{AreRowsOver, AreRounds}
+use Rattle.xc_plain.specs.Told.{step_by}
+use Rattle.xc_plain.specs.Settled.{AreRounds}
 use Rattle.xc_plain.specs.Nodes.{HaveRows, AreSafeNodes, TellsNode, rows_at, last_row, function_at}
 use Rattle.xc_plain.proofs.Rising.{step_by_monotone}
 

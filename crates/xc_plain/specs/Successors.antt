@@ -1,5 +1,5 @@
 -- The transitions from states, and the joins of what holds at the states that they lead to.
-use Rattle.std.specs.Prelude.{◌≡◌, ◌<◌, ℕ, List, [], ◌∷◌, length, map, get_or, slice_index}
+use Rattle.std.specs.Prelude.{◌≡◌, ◌<◌, ◌≤◌, ◌*◌, ℕ, List, [], ◌∷◌, length, map, get_or, slice_index}
 use Rattle.std.specs.List.{range_with_len, slice_index_or}
 use Rattle.xc_alg.specs.Operations.{Operations}
 use Rattle.xc_alg.specs.Products.{product}
@@ -39,9 +39,15 @@ abbrev pub IsSafe : ℕ → ℕ → Row → Type 0
 IsSafe size n (Few successors) = AreSuccessors size n successors
 IsSafe size n (Each values) = IsRow size n values
 
--- the row is that of the values of a relation to n states
+-- how many numbers a row keeps
+abbrev pub numbers_in : Row → ℕ
+numbers_in (Few successors) = 2 * length successors
+numbers_in (Each values) = length values
+
+-- the row is that of the values of a relation to n states, and keeps no more than a number for each state
 pub record IsRowOf (o : Operations) (n : ℕ) (relation : ℕ → ℕ) (row : Row) : Type 0 where
   pub safe : IsSafe o.size n row
+  pub small : numbers_in row ≤ n
   pub told : (f : ℕ → ℕ) → IsFunction o n f → row_joined o f row ≡ weighed_from o relation f 0 n
 
 -- the row of a state

@@ -1,8 +1,5 @@
-use Rattle.std.proofs.Common.{◌≡◌, true, List, length, subst, sym, ◌∙◌, arith}
-use Rattle.xc_ctl.specs.Rounds.{IsTableFor, RoundsTable}
-use Rattle.xc_ctl.specs.declared.kind.Kind.{Kind}
+use Rattle.std.proofs.Common.{◌∙◌}
 use Rattle.xc_plain.specs.Tables.{table_of}
-use Rattle.xc_plain.specs.Nodes.{AreTold, rounds_in}
 use Rattle.xc_plain.proofs.Tabling.{solved_table, unique_told, few_told, ordered_in}
 use Rattle.xc_plain.proofs.engine.solve.Goals as goal
 

@@ -1,4 +1,4 @@
-use Rattle.std.proofs.Common.{ℕ, ◌∙◌, slice_index}
+use Rattle.std.proofs.Common.{◌∙◌, slice_index}
 use Rattle.xc_alg.specs.Operations.{Operations}
 use Rattle.xc_plain.specs.Successors.{next_by}
 use Rattle.xc_plain.proofs.Telling.{told_value, next_told}

@@ -1,4 +1,4 @@
-use Rattle.std.proofs.Common.{◌≡◌, slice_index}
+use Rattle.std.proofs.Common.{◌≡◌}
 use Rattle.xc_alg.specs.Products.{product}
 use Rattle.xc_fixpoint.specs.Lists.{values}
 use Rattle.xc_plain.specs.Successors.{IsRow}

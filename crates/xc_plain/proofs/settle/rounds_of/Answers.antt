@@ -1,6 +1,5 @@
-use Rattle.std.proofs.Common.{length, slice_index, refl, ap, ◌∙◌}
+use Rattle.std.proofs.Common.{length, slice_index, refl}
 use Rattle.xc_alg.specs.Products.{product}
-use Rattle.xc_fixpoint.proofs.Lists.{length-values}
 use Rattle.xc_plain.specs.Told.{step_by, goes_up}
 use Rattle.xc_plain.proofs.Rising.{step_by_monotone}
 use Rattle.xc_plain.proofs.Settling.{equal_rows, iterates_begun, rounds_begun, iterates_more, round_next, rounds_left, rounds_settled}

@@ -1,4 +1,4 @@
-use Rattle.std.proofs.Common.{◌≡◌, ℕ, ◌+◌, ◌-◌, ◌<◌, refl, length, arith}
+use Rattle.std.proofs.Common.{◌≡◌, ◌+◌, ◌-◌, ◌<◌, refl, length, arith}
 use Rattle.xc_alg.specs.Products.{product}
 use Rattle.xc_plain.proofs.Keeping.{no_successors, joined_none, successors_pushed, joined_pushed}
 use Rattle.xc_plain.proofs.steps.successors_of.Goals as goal

@@ -1,4 +1,4 @@
-use Rattle.std.proofs.Common.{◌<◌, ◌≡◌, ℕ, sym, subst, arith}
+use Rattle.std.proofs.Common.{◌<◌, ℕ, sym, subst, arith}
 use Rattle.xc_alg.specs.Products.{product}
 use Rattle.xc_fixpoint.proofs.Lists.{values_pushed}
 use Rattle.xc_plain.proofs.Joining.{row_pushed}
