@@ -92,8 +92,7 @@ few_elements m free = ltb-false 4096 (total (sizes (parts_of m))) (no_limit (nat
 each_digit : (g : ℕ → ℕ) (found : List Viewpoint) (k : ℕ) → ((i : ℕ) → i < length found → g (k + i) < size (slice_index_or found i nobody).lattice.algebra) → AreDigits (sizes (map (λ (p : Viewpoint). p.lattice.algebra) found)) (map g (range_with_len k (length found)))
 each_digit g [] k h = tt
 each_digit g (p ∷ found) k h =
-    let here : k + 0 ≡ k = omega arith in
-    (
+    let here : k + 0 ≡ k = omega arith in (
       subst (λ (j : ℕ). g j < size p.lattice.algebra) here (h 0 (omega arith)),
       each_digit g found (k + 1) (λ i low. let e : k + suc i ≡ k + 1 + i = omega arith in subst (λ (j : ℕ). g j < size (slice_index_or found i nobody).lattice.algebra) e (h (suc i) (omega arith))),
     )

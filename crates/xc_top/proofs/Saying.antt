@@ -86,4 +86,3 @@ pub line_pushed : (f : ℕ → List ℕ) (text new base : List ℕ) (s : ℕ) �
 line_pushed f text new base s known e =
     rw add-one
     (e ∙ ap (λ (t : List ℕ). t ++ f s) known ∙ append_assoc base (flat_map f (range_with_len 0 s)) (f s) ∙ ap (λ (more : List ℕ). base ++ more) (sym (lines_more f s)))
-

@@ -176,7 +176,13 @@ fn push_rounds<T: Rounds>(
     ensures { OnOk result (string_bytes text.new ≡ string_bytes text.old ++ flat_map (node_text nodes.now (T.table table.now)) (range_with_len 0 (length nodes.now))) }
 {
     for node in 0..nodes.len() as u16 {
-        push_node(alloc, text, node, nodes[usize::from(node)], table.rounds(node))?;
+        push_node(
+            alloc,
+            text,
+            node,
+            nodes[usize::from(node)],
+            table.rounds(node),
+        )?;
     }
     Ok(())
 }

@@ -69,12 +69,7 @@ fn evaluate(alloc: Global, machine: &Machine, formulas: &Formulas) -> Result<Ans
 
 /// What comes of a formula file of these bytes.
 #[tactic(auto, using(crate::proofs::Checking::formulas_not_cut, crate::proofs::Checking::formulas_refused, crate::proofs::Checking::formulas_evaluated))]
-fn with_formulas(
-    alloc: Global,
-    machine: &Machine,
-    name: &str,
-    bytes: &[u8],
-) -> Result<Answer, Halt>
+fn with_formulas(alloc: Global, machine: &Machine, name: &str, bytes: &[u8]) -> Result<Answer, Halt>
     ensures { Comes (Cuts name.now (FormulaTasks (merge_of machine.now) name.now) bytes.now) result }
 {
     let lines = cut(alloc, name, bytes)?;
@@ -98,11 +93,7 @@ fn load_formulas<S: Shelf>(
 }
 
 /// The machine that the viewpoints of a map merge to.
-fn machine_of(
-    alloc: Global,
-    sigmap: SigMap,
-    views: List<(View, Lattice)>,
-) -> Result<Machine, Halt>
+fn machine_of(alloc: Global, sigmap: SigMap, views: List<(View, Lattice)>) -> Result<Machine, Halt>
     requires { length views ≡ length (map_of sigmap).uses }
     ensures merged { IfOk result (λ m. (merge_of m ≡ merge_in sigmap views) × (merge_fault (merge_in sigmap views) ≡ None)) }
     ensures stopped { IfErr result (IsRefusalHalt (IsMergeRefusal (merge_in sigmap views))) }

@@ -17,8 +17,7 @@ pub(crate) const ALICE: &str =
     "view alice\nlattice two.lat\nvar x 0 1\ninit x=0\nprop p T when x=1\n\
     command go with T when true do x:=1\n";
 
-pub(crate) const BOB: &str =
-    "view bob\nlattice chain.lat\nvar x 0 1\ninit x=0\nprop p T when x=1\n\
+pub(crate) const BOB: &str = "view bob\nlattice chain.lat\nvar x 0 1\ninit x=0\nprop p T when x=1\n\
     command go with M when x=0 do x:=1\ncommand back with T when x=1 do x:=0\n";
 
 pub(crate) const PAIR: &str =
@@ -86,8 +85,7 @@ pub(crate) const LONG_VIEW: &str =
     "view long\nlattice long.lat\nvar x 0 1\ninit x=0\nprop p e63 when x=1\n\
     command go with e1 when x=0 do x:=1\n";
 
-pub(crate) const LONG: &str =
-    "map long\nuse ann long.view\nuse ben long.view\nvar x 0 1\nprop p\n\
+pub(crate) const LONG: &str = "map long\nuse ann long.view\nuse ben long.view\nvar x 0 1\nprop p\n\
     send ann x x\nsend ben x x\ntell ann p p\ntell ben p p\n";
 
 pub(crate) const LONGER: &str =

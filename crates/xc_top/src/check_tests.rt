@@ -148,7 +148,8 @@ fn values_of_formulas(rt: HostRuntime) -> Result<(), Fail> {
             formula 5\nvalue 0 door=shut lamp=off T,T,T\nvalue 1 door=shut lamp=on M,T,T\n",
         ),
     ] {
-        let files = [one(sigmap, texts), one("x.ctl", [formulas].as_slice())];
+        let lines = [formulas];
+        let files = [one(sigmap, texts), one("x.ctl", lines.as_slice())];
         let ran = run_check(rt.alloc(), sigmap, "x.ctl", files.as_slice(), 99)?;
         assert_eq!(rt; ran.status, Status::Done, "{sigmap}");
         assert_eq!(rt; ran.out.bytes(), out.as_bytes(), "{sigmap}");

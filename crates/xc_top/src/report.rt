@@ -43,11 +43,7 @@ fn is_fit(machine: &Machine)
 }
 
 /// The formulas of a file that is cut into lines, over the propositions of a machine and its elements.
-pub(crate) fn read_tables(
-    alloc: Global,
-    machine: &Machine,
-    lines: &Lines,
-) -> Result<Formulas, Stop>
+pub(crate) fn read_tables(alloc: Global, machine: &Machine, lines: &Lines) -> Result<Formulas, Stop>
     ensures read { IfOk result (λ fs. IsAccepted (formula_format (signature_of (merge_of machine.now))) (rows_in lines.now) (nodes_in fs)) }
     ensures range { IfOk result (λ fs. list_all (is_table_in (product (parts_of (merge_of machine.now))).size (length (merge_of machine.now).plan.props)) (nodes_in fs) ≡ true) }
     ensures stopped { IfErr result (IsStop (signature_of (merge_of machine.now)) (rows_in lines.now)) }
@@ -89,7 +85,14 @@ fn push_formula(
     ensures { OnOk result (AddsBlock (merge_of machine.now) number formula.now.nodes (string_bytes text.old) (string_bytes text.new)) }
 {
     let table = solve(alloc, machine, steps, formula)?;
-    push_block(alloc, text, machine, number, formula.nodes().as_slice(), &table)?;
+    push_block(
+        alloc,
+        text,
+        machine,
+        number,
+        formula.nodes().as_slice(),
+        &table,
+    )?;
     Ok(())
 }
 
@@ -113,11 +116,7 @@ fn push_formulas(
 }
 
 /// The values of formulas at the initial states.
-pub(crate) fn report(
-    alloc: Global,
-    machine: &Machine,
-    formulas: &Formulas,
-) -> Result<Answer, Halt>
+pub(crate) fn report(alloc: Global, machine: &Machine, formulas: &Formulas) -> Result<Answer, Halt>
     requires few { states_of (merge_of machine.now).plan ≤ state_limit }
     requires range { list_all (is_table_in (product (parts_of (merge_of machine.now))).size (length (merge_of machine.now).plan.props)) (nodes_in formulas.now) ≡ true }
     ensures { ComesTo (Reports (merge_of machine.now) (nodes_in formulas.now)) result }
