@@ -15,14 +15,14 @@ struct Ran {
 /// A lattice whose elements e0 to e63 stand one above the other.
 fn long_chain(alloc: Global) -> Result<String, Fail> {
     let mut text = String::from_str(alloc, "lattice long\nelements")?;
-    for k in 0..64 {
+    for k in 0..64u32 {
         text.push_str(format!(in alloc; " e{k}")?.as_str())?;
     }
-    for k in 0..63 {
+    for k in 0..63u32 {
         let next = k + 1;
         text.push_str(format!(in alloc; "\nbelow e{k} e{next}")?.as_str())?;
     }
-    for k in 0..64 {
+    for k in 0..64u32 {
         let other = 63 - k;
         text.push_str(format!(in alloc; "\nnot e{k} e{other}")?.as_str())?;
     }
