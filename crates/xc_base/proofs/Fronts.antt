@@ -39,13 +39,6 @@ line_lacks_its_end (Err x) old text new tokens e f =
     (omega (arith, ap length (f ∙ e), length-append old (spaced tokens)))
     (ap (λ (t : List ℕ). t ++ 10 ∷ []) (f ∙ e) ∙ append_assoc old (spaced tokens) (10 ∷ []))
 
--- tokens that end before one, and behind one without its blank
-pub tokens_stop : (old text new : List ℕ) (ts : List (List ℕ)) (place : ℕ) → length old ≤ length text → text ++ spaced (drop place ts) ≡ old ++ spaced ts → new ≡ text → IsFront (spaced ts) old new
-tokens_stop old text new ts place keeps e f =
-    front_before old (spaced ts) new (spaced (drop place ts))
-    (omega (arith, ap length f))
-    (ap (λ (t : List ℕ). t ++ spaced (drop place ts)) f ∙ e)
-
 pub token_lacks_its_blank : {A E : Type 0} (r : Result A E) (old text more new token : List ℕ) (ts : List (List ℕ)) (place : ℕ) → place < length ts → length old ≤ length text → text ++ spaced (drop place ts) ≡ old ++ spaced ts → token ≡ name_at ts place → more ≡ text ++ token → new ≡ more → OnErr r (IsFront (spaced ts) old new)
 token_lacks_its_blank (Ok x) old text more new token ts place h keeps e is f g = tt
 token_lacks_its_blank (Err x) old text more new token ts place h keeps e is f g =

@@ -55,13 +55,6 @@ values_few vars place d domains low =
     let is = AllPass-from_list_all is_domain vars domains place d low in
     leb-true (length (get_or vars place d).values) 16 (and_parts _ _ (and_parts _ _ is).0).1
 
--- what fit variables are
-pub fit_domains : (vars : List Domain) → are_fit vars ≡ true → list_all is_domain vars ≡ true
-fit_domains vars h = (and_parts _ _ (and_parts _ _ h).0).1
-
-pub fit_states : (vars : List Domain) → are_fit vars ≡ true → total (sizes_of vars) ≤ state_limit
-fit_states vars h = leb-true (total (sizes_of vars)) state_limit (and_parts _ _ h).1
-
 -- one turn of the loop
 pub stepped : (vars : List Domain) (place count : ℕ) (d : Domain) → 0 < place → place ≤ length vars → count ≡ total (sizes_of (drop place vars)) → d ≡ get_or vars (place - 1) d → count * length d.values ≡ total (sizes_of (drop (place - 1) vars))
 stepped vars place count d some within is at =

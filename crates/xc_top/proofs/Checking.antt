@@ -73,16 +73,6 @@ evaluated m tables (Err Words) few h = h
 evaluated m tables (Err (ReadFault line)) few h = h
 evaluated m tables (Err WriteFault) few h = h
 
--- the line of a fault for which viewpoints may be refused
-pub merge_refused : (m : Merge) (fault : MergeFault) (line : List ℕ) → IsRefusal m fault → IsMergeLine fault line → IsMergeRefusal m line
-merge_refused m (UnknownValue viewpoint value) line is told = record { fault = UnknownValue viewpoint value; first = is; told = told }
-merge_refused m (UnknownName viewpoint name) line is told = record { fault = UnknownName viewpoint name; first = is; told = told }
-merge_refused m (NotTotal viewpoint name) line is told = record { fault = NotTotal viewpoint name; first = is; told = told }
-merge_refused m (Elements count) line is told = record { fault = Elements count; first = is; told = told }
-merge_refused m NoInitial line is told = record { fault = NoInitial; first = is; told = told }
-merge_refused m (Initial count) line is told = record { fault = Initial count; first = is; told = told }
-merge_refused m faults.Memory line is told = absurd told
-
 -- viewpoints that do not merge
 module _ (m : Merge) (next : Course) where
   merge_ends : (line : List ℕ) → IsMergeRefusal m line → (moments : ℕ → List File) → Merges m next moments (Ends (Refusal line))

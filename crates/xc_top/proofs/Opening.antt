@@ -47,15 +47,6 @@ kept_same old new (Err Memory) same = tt
 kept_same old new (Err Words) same = same
 kept_same old new (Err WriteFault) same = same
 
--- what leaves a shelf that tells what an earlier one did, leaves the earlier one
-pub kept_on : {T : Type 0} (old mid new : Option Told) (result : Result T Halt) → mid ≡ old → LeavesShelf mid new result → LeavesShelf old new result
-kept_on old mid new (Ok t) same h = h ∙ same
-kept_on old mid new (Err (Refused line)) same h = h ∙ same
-kept_on old mid new (Err (ReadFault line)) same h = tt
-kept_on old mid new (Err Memory) same h = tt
-kept_on old mid new (Err Words) same h = h ∙ same
-kept_on old mid new (Err WriteFault) same h = h ∙ same
-
 pub told_on : (old mid new : Option Told) → mid ≡ old → TellsSame mid new → TellsSame old new
 told_on old mid new same h = subst (λ (told : Option Told). TellsSame told new) same h
 

@@ -100,10 +100,6 @@ blocks_more m k (some ∷ formulas) (u ∷ tables) nodes t number e are =
     ap (λ (more : List ℕ). block_text m k some u ++ more) (blocks_more m (k + 1) formulas tables nodes t number (omega arith) are.1)
     ∙ sym (append_assoc (block_text m k some u) (blocks_text m (k + 1) formulas tables) (block_text m number nodes t))
 
--- no formula, and one formula more
-pub blocks_begun : (m : Merge) (text : List ℕ) → AddsBlocks m [] text text
-blocks_begun m text = record { tables = []; are_tables = tt; said = sym (append-nil text) }
-
 pub block_added : (m : Merge) (formulas more : List (List Kind)) (nodes : List Kind) (number : ℕ) (old text new : List ℕ) → more ≡ formulas ++ nodes ∷ [] → 1 + length formulas ≡ number → AddsBlocks m formulas old text → AddsBlock m number nodes text new → AddsBlocks m more old new
 block_added m formulas more nodes number old text new e count so_far one = record {
   tables = so_far.tables ++ one.table ∷ [];
