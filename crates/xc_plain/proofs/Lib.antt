@@ -1,3 +1,4 @@
+pub mod Facts
 pub mod Joining
 pub mod Keeping
 pub mod Rising

@@ -1,5 +1,4 @@
 pub mod Successors
-pub mod Steps
 pub mod Told
 pub mod Settled
 pub mod Nodes

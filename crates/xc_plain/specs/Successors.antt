@@ -1,6 +1,7 @@
 -- The transitions from states, and the joins of what holds at the states that they lead to.
 use Rattle.std.specs.Prelude.{◌≡◌, ◌<◌, ◌≤◌, ◌*◌, ℕ, List, [], ◌∷◌, length, map, get_or, slice_index}
 use Rattle.std.specs.List.{range_with_len, slice_index_or}
+use Rattle.std.specs.Coded.{Coded-set, coded_ℕ, Π_prop, le_prop}
 use Rattle.xc_alg.specs.Operations.{Operations}
 use Rattle.xc_alg.specs.Products.{product}
 use Rattle.xc_alg.specs.Bounds.{joined}
@@ -67,3 +68,30 @@ pub record AreSafe (size n : ℕ) (rows : List Row) : Type 0 where
 pub record AreRowsOf (frame : Frame) (rows : List Row) : Type 0 where
   pub count : length rows ≡ frame.states
   pub each : (s : ℕ) → s < frame.states → IsRowOf (product frame.parts) frame.states (frame.relation s) (row_at rows s)
+
+-- each of these facts has one proof at most
+IsRow-prop : (size n : ℕ) (row : List ℕ) → IsProp (IsRow size n row)
+IsRow-prop size n row p q = λ i. record {
+  count = Coded-set coded_ℕ _ _ p.count q.count i;
+  range = Π_prop (λ s. Π_prop (λ low. le_prop)) p.range q.range i;
+}
+
+IsSafe-prop : (size n : ℕ) (row : Row) → IsProp (IsSafe size n row)
+IsSafe-prop size n (Few successors) p q = λ i. record {
+  states = Π_prop (λ place. Π_prop (λ other. Π_prop (λ low. le_prop))) p.states q.states i;
+  values = Π_prop (λ place. Π_prop (λ other. Π_prop (λ low. le_prop))) p.values q.values i;
+}
+IsSafe-prop size n (Each values) p q = IsRow-prop size n values p q
+
+IsRowOf-prop : (o : Operations) (n : ℕ) (relation : ℕ → ℕ) (row : Row) → IsProp (IsRowOf o n relation row)
+IsRowOf-prop o n relation row p q = λ i. record {
+  safe = IsSafe-prop o.size n row p.safe q.safe i;
+  small = le_prop p.small q.small i;
+  told = Π_prop (λ f. Π_prop (λ within. Coded-set coded_ℕ _ _)) p.told q.told i;
+}
+
+pub AreRowsOf-prop : (frame : Frame) (rows : List Row) → IsProp (AreRowsOf frame rows)
+AreRowsOf-prop frame rows p q = λ i. record {
+  count = Coded-set coded_ℕ _ _ p.count q.count i;
+  each = Π_prop (λ s. Π_prop (λ low. IsRowOf-prop (product frame.parts) frame.states (frame.relation s) (row_at rows s))) p.each q.each i;
+}

@@ -11,8 +11,7 @@ mod settle;
 mod steps;
 mod table;
 
-pub use engine::solve;
-pub use steps::Steps;
+pub use engine::{Engine, solve};
 pub use table::PlainTable;
 
 #[cfg(test)]

@@ -5,7 +5,6 @@ ghost use Rattle.xc_alg.specs.Products.{product};
 ghost use Rattle.xc_fixpoint.specs.Functions.{IsFunction};
 ghost use Rattle.xc_fixpoint.specs.Lists.{values};
 ghost use Rattle.xc_plain.specs.Successors.{IsRow, AreSuccessors, few_joined, weighed_from, IsRowOf, AreRowsOf};
-ghost use Rattle.xc_plain.specs.Steps.{AreStepsOf};
 
 use crate::row::{Row, Successor};
 use std::alloc::Global;
@@ -13,24 +12,16 @@ use xc_alg::Algebra;
 use xc_base::{List, Memory};
 use xc_ctl::Framed;
 
-/// The transitions of a machine whose value is not the bottom, or all of a state that has many, made once for many formulas.
-#[derive(Debug, Drop)]
-pub struct Steps {
-    pub(crate) rows: List<Row>,
-}
-
-impl Steps {
-    /// The transitions of a machine. Each is asked for once.
-    pub fn of<M: Framed>(alloc: Global, model: &M) -> Result<Steps, Memory>
-        requires few { (M.frame model.now).states ≤ 4096 }
-        ensures told { IfOk result (λ steps. AreStepsOf (M.frame model.now) steps) }
-    {
-        let mut rows = List::new(alloc);
-        for state in 0..model.states() {
-            rows.push(row_of(alloc, model, state)?)?;
-        }
-        Ok(Steps { rows })
+/// The transitions of a machine: those whose value is not the bottom, or all of a state that has many. Each is asked for once.
+pub(crate) fn rows_of<M: Framed>(alloc: Global, model: &M) -> Result<List<Row>, Memory>
+    requires { (M.frame model.now).states ≤ 4096 }
+    ensures { IfOk result (λ rows. AreRowsOf (M.frame model.now) rows) }
+{
+    let mut rows = List::new(alloc);
+    for state in 0..model.states() {
+        rows.push(row_of(alloc, model, state)?)?;
     }
+    Ok(rows)
 }
 
 /// The values of the transitions from a state to all states.

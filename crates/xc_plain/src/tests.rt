@@ -7,7 +7,7 @@ ghost use Rattle.xc_plain.specs.Tables.{table_of};
 ghost use Rattle.xc_ctl.specs.Tables.{is_kind_in, is_table_in};
 ghost use Rattle.xc_plain.specs.Machines.{clamped, clamped_in_range};
 
-use crate::{PlainTable, Steps, solve};
+use crate::{Engine, PlainTable, solve};
 use std::alloc::Global;
 use std::process::Abort;
 use std::test::Fail;
@@ -187,20 +187,27 @@ fn formulas(alloc: Global, text: &str) -> Result<Formulas, Fail> {
     Ok(read_formulas(alloc, &lines, &props, &parts, 0, 5)?)
 }
 
+fn engine_of<'a>(
+    rt: &impl Abort,
+    alloc: Global,
+    machine: &'a Machine<Product>,
+) -> Result<Engine<'a, Machine<Product>>, Fail> {
+    assert!(rt; machine.states() <= 4096);
+    Ok(Engine::of(alloc, machine)?)
+}
+
 fn solved(
     rt: &impl Abort,
     alloc: Global,
-    machine: &Machine<Product>,
+    engine: &Engine<Machine<Product>>,
     formula: &Formula,
 ) -> Result<PlainTable, Fail>
     ensures { IfOk result (λ t. length formula.now.nodes ≡ (table_of t).nodes) }
 {
-    assert!(rt; machine.states() <= 4096);
-    let elements = machine.product().size();
+    let elements = engine.model.product().size();
     let fit = fits(formula.nodes().as_slice(), elements, 2);
     assert!(rt; fit);
-    let steps = Steps::of(alloc, machine)?;
-    Ok(solve(alloc, machine, &steps, formula)?)
+    Ok(engine.solve(alloc, formula)?)
 }
 
 /// The values of a node.
@@ -235,14 +242,14 @@ fn round_row<T: Rounds>(
 fn check(
     rt: &impl Abort,
     alloc: Global,
-    machine: &Machine<Product>,
+    engine: &Engine<Machine<Product>>,
     text: &str,
     want: &[&[u16]],
 ) -> Result<(), Fail> {
     let formulas = formulas(alloc, text)?;
     assert_eq!(rt; formulas.items.len(), 1);
     let formula = formulas.items.get(0);
-    let table = solved(rt, alloc, machine, formula)?;
+    let table = solved(rt, alloc, engine, formula)?;
     let count = formula.nodes().len();
     assert!(rt; 0 < count && count <= 256);
     let last = (count - 1) as u16;
@@ -270,41 +277,42 @@ fn a_dead_end_and_a_loop(rt: HostRuntime) -> Result<(), Fail> {
         &[&[0, 5, 0, 5], &[0, 0, 5], &[0, 0, 5], &[]],
         &[&[0, 0, 5, 0], &[0, 5]],
     )?;
-    check(&rt, alloc, &m, "EX p", &[&[0, 5, 5, 0]])?;
-    check(&rt, alloc, &m, "!p & q | {F,M}", &[&[1, 5, 1, 1]])?;
+    let engine = engine_of(&rt, alloc, &m)?;
+    check(&rt, alloc, &engine, "EX p", &[&[0, 5, 5, 0]])?;
+    check(&rt, alloc, &engine, "!p & q | {F,M}", &[&[1, 5, 1, 1]])?;
     check(
         &rt,
         alloc,
-        &m,
+        &engine,
         "EF p",
         &[&[0, 0, 0, 0], &[0, 0, 5, 0], &[0, 5, 5, 0], &[5, 5, 5, 0]],
     )?;
     check(
         &rt,
         alloc,
-        &m,
+        &engine,
         "AF p",
         &[&[0, 0, 0, 0], &[0, 0, 5, 0], &[0, 5, 5, 0]],
     )?;
     check(
         &rt,
         alloc,
-        &m,
+        &engine,
         "E[q U p]",
         &[&[0, 0, 0, 0], &[0, 0, 5, 0], &[0, 5, 5, 0]],
     )?;
     check(
         &rt,
         alloc,
-        &m,
+        &engine,
         "A[q U p]",
         &[&[0, 0, 0, 0], &[0, 0, 5, 0], &[0, 5, 5, 0]],
     )?;
-    check(&rt, alloc, &m, "EG p", &[&[5, 5, 5, 5], &[0, 0, 5, 0]])?;
+    check(&rt, alloc, &engine, "EG p", &[&[5, 5, 5, 5], &[0, 0, 5, 0]])?;
     check(
         &rt,
         alloc,
-        &m,
+        &engine,
         "EG q",
         &[&[5, 5, 5, 5], &[0, 5, 0, 0], &[0, 0, 0, 0]],
     )
@@ -315,8 +323,9 @@ fn a_dead_end_and_a_loop(rt: HostRuntime) -> Result<(), Fail> {
 fn values_between(rt: HostRuntime) -> Result<(), Fail> {
     let alloc = rt.alloc();
     let m = machine_of(alloc, 2, &[&[0, 4], &[0, 5]], &[&[1, 5], &[]])?;
-    check(&rt, alloc, &m, "EF p", &[&[0, 0], &[1, 5], &[4, 5]])?;
-    check(&rt, alloc, &m, "AF p", &[&[0, 0], &[1, 5], &[4, 5]])
+    let engine = engine_of(&rt, alloc, &m)?;
+    check(&rt, alloc, &engine, "EF p", &[&[0, 0], &[1, 5], &[4, 5]])?;
+    check(&rt, alloc, &engine, "AF p", &[&[0, 0], &[1, 5], &[4, 5]])
 }
 
 // Two states that lead to each other: the least and the greatest fixpoint differ at each.
@@ -324,8 +333,9 @@ fn values_between(rt: HostRuntime) -> Result<(), Fail> {
 fn least_and_greatest(rt: HostRuntime) -> Result<(), Fail> {
     let alloc = rt.alloc();
     let m = machine_of(alloc, 2, &[&[0, 5], &[5]], &[&[], &[]])?;
-    check(&rt, alloc, &m, "E[true U false]", &[&[0, 0]])?;
-    check(&rt, alloc, &m, "EG true", &[&[5, 5]])
+    let engine = engine_of(&rt, alloc, &m)?;
+    check(&rt, alloc, &engine, "E[true U false]", &[&[0, 0]])?;
+    check(&rt, alloc, &engine, "EG true", &[&[5, 5]])
 }
 
 // 64 states, each of which leads to the next: one round for each.
@@ -352,8 +362,12 @@ fn one_round_a_state(rt: HostRuntime) -> Result<(), Fail> {
     };
     let formulas = formulas(alloc, "EF p")?;
     assert_eq!(rt; formulas.items.len(), 1);
-    let table = solved(&rt, alloc, &m, formulas.items.get(0))?;
-    assert!(rt; formulas.items.get(0).nodes().len() == 3);
+    let formula = formulas.items.get(0);
+    let elements = m.product().size();
+    let fit = fits(formula.nodes().as_slice(), elements, 2);
+    assert!(rt; fit);
+    let table = solve(alloc, &m, formula)?;
+    assert!(rt; formula.nodes().len() == 3);
     assert_eq!(rt; table.rounds(2), 64);
     assert_eq!(rt; table.states(), 64);
     assert_eq!(rt; table.round_at(2, 63, 0), 0);

@@ -11,7 +11,6 @@ ghost use Rattle.xc_merge.specs.Merges.{parts_of, names_of_parts};
 ghost use Rattle.xc_merge.specs.Projections.{states_of};
 ghost use Rattle.xc_merge.specs.MergedFrames.{merged_frame};
 ghost use Rattle.xc_machine.specs.Machines.{merge_of};
-ghost use Rattle.xc_plain.specs.Steps.{AreStepsOf};
 ghost use Rattle.xc_ctl.specs.FormulaFiles.{formula_format, IsStop};
 ghost use Rattle.xc_ctl.specs.Formulas.{nodes_in};
 ghost use Rattle.xc_ctl.specs.Trees.{is_fit, sizes_of};
@@ -29,7 +28,7 @@ use xc_alg::{Algebra, laws_hold};
 use xc_base::{Lines, Memory as NoMemory, Stop};
 use xc_ctl::{Formula, Formulas};
 use xc_machine::Machine;
-use xc_plain::{Steps, solve};
+use xc_plain::Engine;
 use xc_product::Product;
 
 /// What the formulas of a check are about is fit to be read.
@@ -60,13 +59,13 @@ pub(crate) fn read_tables(alloc: Global, machine: &Machine, lines: &Lines) -> Re
     )
 }
 
-/// The steps of a machine.
+/// The engine of a machine, which asks for its transitions once for all formulas.
 #[tactic(auto, unfolding(xc_merge::specs::MergedFrames::merged_frame))]
-fn steps_of(alloc: Global, machine: &Machine) -> Result<Steps, NoMemory>
+fn engine_of<'a>(alloc: Global, machine: &'a Machine) -> Result<Engine<'a, Machine>, NoMemory>
     requires { states_of (merge_of machine.now).plan ≤ state_limit }
-    ensures { IfOk result (λ steps. AreStepsOf (merged_frame (merge_of machine.now)) steps) }
+    ensures { IfOk result (λ engine. engine.model.now ≡ machine.now) }
 {
-    Steps::of(alloc, machine)
+    Engine::of(alloc, machine)
 }
 
 /// Evaluates a formula, and appends what is told of it.
@@ -74,21 +73,18 @@ fn steps_of(alloc: Global, machine: &Machine) -> Result<Steps, NoMemory>
 fn push_formula(
     alloc: Global,
     text: &mut String,
-    machine: &Machine,
-    steps: &Steps,
+    engine: &Engine<Machine>,
     number: usize,
     formula: &Formula,
 ) -> Result<(), NoMemory>
-    requires few { states_of (merge_of machine.now).plan ≤ state_limit }
-    requires steps { AreStepsOf (merged_frame (merge_of machine.now)) steps.now }
-    requires range { is_table_in (product (parts_of (merge_of machine.now))).size (length (merge_of machine.now).plan.props) formula.now.nodes ≡ true }
-    ensures { OnOk result (AddsBlock (merge_of machine.now) number formula.now.nodes (string_bytes text.old) (string_bytes text.new)) }
+    requires { let merge = merge_of engine.now.model.now in is_table_in (product (parts_of merge)).size (length merge.plan.props) formula.now.nodes ≡ true }
+    ensures { OnOk result (AddsBlock (merge_of engine.now.model.now) number formula.now.nodes (string_bytes text.old) (string_bytes text.new)) }
 {
-    let table = solve(alloc, machine, steps, formula)?;
+    let table = engine.solve(alloc, formula)?;
     push_block(
         alloc,
         text,
-        machine,
+        engine.model,
         number,
         formula.nodes().as_slice(),
         &table,
@@ -100,17 +96,14 @@ fn push_formula(
 fn push_formulas(
     alloc: Global,
     text: &mut String,
-    machine: &Machine,
-    steps: &Steps,
+    engine: &Engine<Machine>,
     formulas: &[Formula],
 ) -> Result<(), NoMemory>
-    requires few { states_of (merge_of machine.now).plan ≤ state_limit }
-    requires steps { AreStepsOf (merged_frame (merge_of machine.now)) steps.now }
-    requires range { list_all (is_table_in (product (parts_of (merge_of machine.now))).size (length (merge_of machine.now).plan.props)) (map (λ f. f.nodes) formulas.now) ≡ true }
-    ensures { OnOk result (AddsBlocks (merge_of machine.now) (map (λ f. f.nodes) formulas.now) (string_bytes text.old) (string_bytes text.new)) }
+    requires { let merge = merge_of engine.now.model.now in list_all (is_table_in (product (parts_of merge)).size (length merge.plan.props)) (map (λ f. f.nodes) formulas.now) ≡ true }
+    ensures { OnOk result (AddsBlocks (merge_of engine.now.model.now) (map (λ f. f.nodes) formulas.now) (string_bytes text.old) (string_bytes text.new)) }
 {
     for i in 0..formulas.len() {
-        push_formula(alloc, text, machine, steps, i + 1, &formulas[i])?;
+        push_formula(alloc, text, engine, i + 1, &formulas[i])?;
     }
     Ok(())
 }
@@ -123,8 +116,8 @@ pub(crate) fn report(alloc: Global, machine: &Machine, formulas: &Formulas) -> R
 {
     machine.is_framed();
     let mut text = map_line(alloc, machine)?;
-    let steps = steps_of(alloc, machine)?;
-    push_formulas(alloc, &mut text, machine, &steps, formulas.items.as_slice())?;
+    let engine = engine_of(alloc, machine)?;
+    push_formulas(alloc, &mut text, &engine, formulas.items.as_slice())?;
     Ok(Answer {
         passed: Passed::Done,
         text,

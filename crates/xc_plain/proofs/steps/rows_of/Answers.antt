@@ -2,7 +2,7 @@ use Rattle.std.proofs.Common.{length, ap, ◌∙◌, arith}
 use Rattle.std.proofs.lemmas.List.{length_push}
 use Rattle.xc_alg.specs.Products.{product}
 use Rattle.xc_plain.proofs.Keeping.{rows_kept}
-use Rattle.xc_plain.proofs.steps.Steps.of.Goals as goal
+use Rattle.xc_plain.proofs.steps.rows_of.Goals as goal
 
 pub loop-state-preserved : goal.loop-state-preserved
 loop-state-preserved g c = record {

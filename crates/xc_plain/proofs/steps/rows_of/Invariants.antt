@@ -2,7 +2,7 @@
 use Rattle.std.proofs.Common.{◌≡◌, ◌<◌, ℕ, length}
 use Rattle.xc_alg.specs.Products.{product}
 use Rattle.xc_plain.specs.Successors.{IsRowOf, row_at}
-use Rattle.xc_plain.proofs.steps.Steps.of.Given as goal
+use Rattle.xc_plain.proofs.steps.rows_of.Given as goal
 
 abbrev pub invariant-loop-state : goal.invariant-loop-state
 invariant-loop-state g l = record {
