@@ -6,4 +6,4 @@ use Rattle.xc_top.specs.Saying.{AddsBlocks}
 use Rattle.xc_top.proofs.report.push_formulas.Given as goal
 
 abbrev pub invariant-loop-i : goal.invariant-loop-i
-invariant-loop-i l = AddsBlocks (merge_of l.engine.model) (map (λ (f : Formula). f.nodes) (take l.i l.formulas)) (string_bytes l.initial.text) (string_bytes l.text)
+invariant-loop-i l = AddsBlocks (merge_of l.engine.model.now) (map (λ (f : Formula). f.nodes) (take l.i l.formulas)) (string_bytes l.initial.text) (string_bytes l.text)
