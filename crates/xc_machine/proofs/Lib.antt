@@ -13,3 +13,4 @@ pub mod Coding
 pub mod Encoding
 pub mod Framing
 pub mod AsFrame
+pub mod Facts

@@ -23,4 +23,6 @@ mod tellings;
 pub use machine::Machine;
 
 #[cfg(test)]
+mod encoder_tests;
+#[cfg(test)]
 mod tests;
