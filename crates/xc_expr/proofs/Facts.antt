@@ -5,11 +5,12 @@ use Rattle.xc_base.specs.Operators.{chained, chain, chain_up_to}
 use Rattle.xc_expr.specs.declared.domain.Domain.{Domain}
 use Rattle.xc_expr.specs.declared.assign.Assign.TheVariants as assigns
 use Rattle.xc_expr.specs.Variables.{are_fit, is_domain, state_limit}
-use Rattle.xc_expr.specs.Written.{IsGuard, is_variable_name, is_value_name, assignment_tokens, action_tokens, Equal, Unequal, True, Not, And, Or, To, Next, Prev, Any}
+use Rattle.xc_expr.specs.Written.{IsGuard, is_variable_name, is_value_name, assignment_tokens, action_tokens, Equal, Unequal, True, False, Not, And, Or, To, Next, Prev, Any}
 use Rattle.xc_expr.specs.Written.IsSpelled.{truth, factor, summand, negated}
 use Rattle.xc_expr.specs.GuardReading.{atom, basic, nested, product, sum}
 use Rattle.xc_expr.specs.ActionReading.{assignment_in, assignments_in}
 use Rattle.xc_expr.specs.Reading.{guard_in, action_in}
+use Rattle.xc_expr.specs.Printing.{named_guard, named_action, guard_tokens}
 use Rattle.xc_expr.specs.Resolving.{resolved, resolved_action, sets_twice}
 use Rattle.xc_expr.specs.Tests as tests
 use Rattle.xc_expr.specs.Tests.{holds_at, is_in_range}
@@ -101,3 +102,38 @@ round = (refl, refl, refl, refl, refl, refl)
 pub limits : (is_domain (record { name = x; values = o ∷ [] }) ≡ false) × (is_domain (record { name = x; values = o ∷ o ∷ [] }) ≡ false) × (are_fit vars ≡ true) × (are_fit [] ≡ false)
     × (total (replicate 20 2) ≡ state_limit) × (is_in_range vars (tests.Same 0 2) ≡ false) × (is_action_in_range vars (assigns.Any 0 ∷ assigns.Any 0 ∷ []) ≡ false)
 limits = (refl, refl, refl, refl, refl, refl, refl)
+
+-- places by their names: a value by its variable's list, and two variables by their own names
+pub named : (named_guard vars (tests.Or (tests.Not (tests.Is 2 0)) (tests.And (tests.Differ 0 1) tests.False)) ≡ Or (Not (Equal (codes "z") y)) (And (Unequal x y) False))
+    × (named_guard vars (tests.And (tests.IsNot 1 1) (tests.Same 1 0)) ≡ And (Unequal y (codes "1")) (Equal y x))
+    × (named_action vars (assigns.Value 0 1 ∷ assigns.Copy 1 0 ∷ assigns.Next 2 2 ∷ []) ≡ To x (codes "1") ∷ To y x ∷ Next (codes "z") (codes "z") ∷ [])
+    × (named_action vars (assigns.Prev 0 1 ∷ assigns.Any 1 ∷ []) ≡ Prev x y ∷ Any y ∷ [])
+named = (refl, refl, refl, refl)
+
+-- `true` before or behind an operator, or in brackets, as tokens
+abbrev before : List ℕ → List (List ℕ) → List (List ℕ)
+before sign tokens = codes "true" ∷ sign ∷ tokens
+
+abbrev behind_true : List (List ℕ) → List ℕ → List (List ℕ)
+behind_true tokens sign = tokens ++ sign ∷ codes "true" ∷ []
+
+abbrev boxed : List (List ℕ) → List (List ℕ)
+boxed tokens = codes "(" ∷ tokens ++ codes ")" ∷ []
+
+abbrev sum_tokens : List (List ℕ)
+sum_tokens = codes "true" ∷ codes "|" ∷ codes "false" ∷ []
+
+abbrev product_tokens : List (List ℕ)
+product_tokens = codes "true" ∷ codes "&" ∷ codes "false" ∷ []
+
+-- an `|` gets brackets under `&` and `!`, and on the right of `|`; an `&` under `!`, and on the right of `&`
+pub brackets : (guard_tokens (And (Or True False) True) ≡ behind_true (boxed sum_tokens) (codes "&")) × (guard_tokens (And True (Or True False)) ≡ before (codes "&") (boxed sum_tokens))
+    × (guard_tokens (Not (Or True False)) ≡ codes "!" ∷ boxed sum_tokens) × (guard_tokens (Or True (Or True False)) ≡ before (codes "|") (boxed sum_tokens))
+    × (guard_tokens (Not (And True False)) ≡ codes "!" ∷ boxed product_tokens) × (guard_tokens (And True (And True False)) ≡ before (codes "&") (boxed product_tokens))
+brackets = (refl, refl, refl, refl, refl, refl)
+
+-- and nothing else does
+pub no_brackets : (guard_tokens (Or (Or True False) True) ≡ behind_true sum_tokens (codes "|")) × (guard_tokens (And (And True False) True) ≡ behind_true product_tokens (codes "&"))
+    × (guard_tokens (Or (And True False) True) ≡ behind_true product_tokens (codes "|")) × (guard_tokens (Or True (And True False)) ≡ before (codes "|") product_tokens)
+    × (guard_tokens (Not (Not (Equal x o))) ≡ codes "!" ∷ codes "!" ∷ x0) × (guard_tokens (And (Not True) (Unequal x o)) ≡ codes "!" ∷ codes "true" ∷ codes "&" ∷ x ∷ codes "!=" ∷ o ∷ [])
+no_brackets = (refl, refl, refl, refl, refl, refl)

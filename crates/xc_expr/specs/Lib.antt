@@ -9,6 +9,8 @@ pub mod GuardReading
 pub mod KnownSettings
 pub mod ActionReading
 pub mod Reading
+pub mod Printing
+pub mod PrintSteps
 pub mod ActionOutcomes
 pub mod Outcomes
 pub mod Laws

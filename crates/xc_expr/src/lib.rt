@@ -19,6 +19,7 @@ mod laws;
 mod operands;
 mod phrase;
 mod places;
+mod print;
 mod read;
 mod setting;
 mod words;
@@ -38,11 +39,14 @@ pub use guard_test::{holds, holds_in};
 pub use laws::guards_are_read;
 pub use phrase::Phrase;
 pub use places::places_of;
+pub use print::{print_action, print_guard, push_action, push_guard};
 pub use read::{read_action, read_guard};
 pub use setting::Setting;
 pub use words::{is_value_name, is_variable_name};
 
 #[cfg(test)]
 mod action_tests;
+#[cfg(test)]
+mod print_tests;
 #[cfg(test)]
 mod tests;

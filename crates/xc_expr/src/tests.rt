@@ -28,7 +28,7 @@ fn domain(alloc: Global, name: &[u8], first: &[u8], second: &[u8]) -> Result<Dom
     Ok(Domain { name, values })
 }
 
-fn vars(alloc: Global) -> Result<Vars, Memory>
+pub(crate) fn vars(alloc: Global) -> Result<Vars, Memory>
     ensures { IfOk result (λ vars. are_fit vars ≡ true) }
 {
     let mut vars = List::new(alloc);
@@ -39,7 +39,7 @@ fn vars(alloc: Global) -> Result<Vars, Memory>
     Ok(vars)
 }
 
-fn told(alloc: Global, guard: &Guard) -> Result<String, AllocError> {
+pub(crate) fn told(alloc: Global, guard: &Guard) -> Result<String, AllocError> {
     match guard {
         Guard::True => format!(in alloc; "T"),
         Guard::False => format!(in alloc; "F"),

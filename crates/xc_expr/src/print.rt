@@ -1,0 +1,231 @@
+//! Guards and actions as text.
+
+ghost use Rattle.std.specs.Prelude.{◌≡◌, ◌<◌, ◌++◌, ◌∷◌, [], true, false, if◌then◌else◌, map, length, codes, IfOk, OnOk};
+ghost use Rattle.std.specs.List.{list_all};
+ghost use Rattle.xc_base.specs.Canonical.{spaced};
+ghost use Rattle.xc_base.specs.Lines.{texts};
+ghost use Rattle.xc_expr.specs.Variables.{are_fit, values_at};
+ghost use Rattle.xc_expr.specs.Tests.{test_of, is_in_range};
+ghost use Rattle.xc_expr.specs.Actions.{is_assign_in_range, is_action_in_range};
+ghost use Rattle.xc_expr.specs.Written.{assignment_tokens, action_tokens};
+ghost use Rattle.xc_expr.specs.Printing.{variable_name, value_name, named_guard, named_assignment, named_action, is_or, is_joined, bracketed, guard_tokens};
+ghost use Rattle.xc_expr.specs.PrintSteps.{only_if, tokens_behind};
+
+use crate::assign::{Action, Assign};
+use crate::domain::Vars;
+use crate::guard::Guard;
+use std::alloc::Global;
+use xc_base::{Bytes, Lexeme, List, Memory, is_word_text, spaced};
+
+/// Appends a token.
+#[tactic(auto, using(crate::proofs::Printing::texts_more))]
+fn push<'v>(tokens: &mut List<Lexeme<'v>>, text: &'v [u8]) -> Result<(), Memory>
+    ensures { OnOk result (texts tokens.new ≡ texts tokens.old ++ text.now ∷ []) }
+{
+    let word = is_word_text(text);
+    tokens.push(Lexeme { text, word })
+}
+
+/// Appends a token, where it is wanted.
+#[tactic(auto, using(crate::proofs::Printing::none_more))]
+fn push_if<'v>(tokens: &mut List<Lexeme<'v>>, text: &'v [u8], wanted: bool) -> Result<(), Memory>
+    ensures { OnOk result (texts tokens.new ≡ texts tokens.old ++ only_if wanted text.now) }
+{
+    if wanted { push(tokens, text) } else { Ok(()) }
+}
+
+/// Appends two names with a sign between them.
+fn push_three<'v>(
+    tokens: &mut List<Lexeme<'v>>,
+    left: &'v [u8],
+    sign: &'v [u8],
+    right: &'v [u8],
+) -> Result<(), Memory>
+    ensures { OnOk result (texts tokens.new ≡ texts tokens.old ++ left.now ∷ sign.now ∷ right.now ∷ []) }
+{
+    push(tokens, left)?;
+    push(tokens, sign)?;
+    push(tokens, right)
+}
+
+/// The name of a variable.
+fn variable_name(vars: &Vars, var: u8) -> &[u8]
+    requires { var < length vars.now }
+    ensures { result.now ≡ variable_name vars.now var }
+{
+    vars.get(usize::from(var)).name.as_str().as_bytes()
+}
+
+/// The name of a value that a variable has.
+fn value_name(vars: &Vars, var: u8, value: u8) -> &[u8]
+    requires var { var < length vars.now }
+    requires value { value < length (values_at vars.now var) }
+    ensures { result.now ≡ value_name vars.now var value }
+{
+    let values = &vars.get(usize::from(var)).values;
+    values.get(usize::from(value)).as_str().as_bytes()
+}
+
+fn is_or(guard: &Guard, vars: &Vars) -> bool
+    ensures { result ≡ is_or (named_guard vars.now (test_of guard.now)) }
+{
+    matches!(guard, Guard::Or(..))
+}
+
+fn is_joined(guard: &Guard, vars: &Vars) -> bool
+    ensures { result ≡ is_joined (named_guard vars.now (test_of guard.now)) }
+{
+    matches!(guard, Guard::And(..) | Guard::Or(..))
+}
+
+/// Appends the tokens of a guard, in brackets where they are wanted.
+#[tactic(auto, using(crate::proofs::Printing::guard_steps))]
+#[cycle(printer)]
+fn push_operand<'v>(
+    tokens: &mut List<Lexeme<'v>>,
+    guard: &Guard,
+    vars: &'v Vars,
+    brackets: bool,
+) -> Result<(), Memory>
+    requires { is_in_range vars.now (test_of guard.now) ≡ true }
+    ensures { OnOk result (texts tokens.new
+        ≡ texts tokens.old ++ bracketed brackets (guard_tokens (named_guard vars.now (test_of guard.now)))) }
+{
+    push_if(tokens, b"(", brackets)?;
+    push_guard(tokens, guard, vars)?;
+    push_if(tokens, b")", brackets)
+}
+
+/// Appends the tokens of a guard.
+#[tactic(auto, using(crate::proofs::Printing::guard_steps))]
+#[cycle(printer)]
+pub fn push_guard<'v>(
+    tokens: &mut List<Lexeme<'v>>,
+    guard: &Guard,
+    vars: &'v Vars,
+) -> Result<(), Memory>
+    requires { is_in_range vars.now (test_of guard.now) ≡ true }
+    ensures { OnOk result (texts tokens.new ≡ texts tokens.old ++ guard_tokens (named_guard vars.now (test_of guard.now))) }
+{
+    match guard {
+        Guard::True => push(tokens, b"true"),
+        Guard::False => push(tokens, b"false"),
+        Guard::Is { var, value } => {
+            let right = value_name(vars, *var, *value);
+            push_three(tokens, variable_name(vars, *var), b"=", right)
+        }
+        Guard::IsNot { var, value } => {
+            let right = value_name(vars, *var, *value);
+            push_three(tokens, variable_name(vars, *var), b"!=", right)
+        }
+        Guard::Same { left, right } => {
+            let right = variable_name(vars, *right);
+            push_three(tokens, variable_name(vars, *left), b"=", right)
+        }
+        Guard::Differ { left, right } => {
+            let right = variable_name(vars, *right);
+            push_three(tokens, variable_name(vars, *left), b"!=", right)
+        }
+        Guard::Not(inner) => {
+            push(tokens, b"!")?;
+            push_operand(tokens, inner, vars, is_joined(inner, vars))
+        }
+        Guard::And(left, right) => {
+            push_operand(tokens, left, vars, is_or(left, vars))?;
+            push(tokens, b"&")?;
+            push_operand(tokens, right, vars, is_joined(right, vars))
+        }
+        Guard::Or(left, right) => {
+            push_guard(tokens, left, vars)?;
+            push(tokens, b"|")?;
+            push_operand(tokens, right, vars, is_or(right, vars))
+        }
+    }
+}
+
+/// The canonical text of a guard, with no line end.
+pub fn print_guard(alloc: Global, guard: &Guard, vars: &Vars) -> Result<Bytes, Memory>
+    requires fit { are_fit vars.now ≡ true }
+    requires range { is_in_range vars.now (test_of guard.now) ≡ true }
+    ensures { IfOk result (λ text. text ≡ spaced (guard_tokens (named_guard vars.now (test_of guard.now)))) }
+{
+    let mut tokens = List::new(alloc);
+    push_guard(&mut tokens, guard, vars)?;
+    spaced(alloc, tokens.as_slice())
+}
+
+/// Appends the tokens of an assignment.
+#[tactic(auto, using(crate::proofs::Printing::guard_steps))]
+fn push_assignment<'v>(
+    tokens: &mut List<Lexeme<'v>>,
+    assign: &Assign,
+    vars: &'v Vars,
+) -> Result<(), Memory>
+    requires { is_assign_in_range vars.now assign.now ≡ true }
+    ensures { OnOk result (texts tokens.new ≡ texts tokens.old ++ assignment_tokens (named_assignment vars.now assign.now)) }
+{
+    match *assign {
+        Assign::Value { var, value } => {
+            let right = value_name(vars, var, value);
+            push_three(tokens, variable_name(vars, var), b":=", right)
+        }
+        Assign::Copy { var, from } => {
+            let right = variable_name(vars, from);
+            push_three(tokens, variable_name(vars, var), b":=", right)
+        }
+        Assign::Next { var, from } => {
+            push_three(tokens, variable_name(vars, var), b":=", b"next")?;
+            push(tokens, variable_name(vars, from))
+        }
+        Assign::Prev { var, from } => {
+            push_three(tokens, variable_name(vars, var), b":=", b"prev")?;
+            push(tokens, variable_name(vars, from))
+        }
+        Assign::Any { var } => push_three(tokens, variable_name(vars, var), b":=", b"any"),
+    }
+}
+
+/// Appends the tokens of assignments, each with `;` before it.
+#[tactic(auto, using(std::proofs::lemmas::Grind::common_steps, crate::proofs::Printing::action_steps))]
+fn push_others<'v>(
+    tokens: &mut List<Lexeme<'v>>,
+    others: &[Assign],
+    vars: &'v Vars,
+) -> Result<(), Memory>
+    requires { list_all (is_assign_in_range vars.now) others.now ≡ true }
+    ensures { OnOk result (texts tokens.new ≡ texts tokens.old ++ tokens_behind (named_action vars.now others.now)) }
+{
+    for assign in others {
+        push(tokens, b";")?;
+        push_assignment(tokens, assign, vars)?;
+    }
+    Ok(())
+}
+
+/// Appends the tokens of an action.
+#[tactic(auto, using(std::proofs::lemmas::Grind::common_steps, crate::proofs::Printing::whole_steps))]
+pub fn push_action<'v>(
+    tokens: &mut List<Lexeme<'v>>,
+    action: &Action,
+    vars: &'v Vars,
+) -> Result<(), Memory>
+    requires { is_action_in_range vars.now action.now ≡ true }
+    ensures { OnOk result (texts tokens.new ≡ texts tokens.old ++ action_tokens (named_action vars.now action.now)) }
+{
+    let [first, others @ ..] = action.as_slice() else {
+        return push(tokens, b"skip");
+    };
+    push_assignment(tokens, first, vars)?;
+    push_others(tokens, others, vars)
+}
+
+/// The canonical text of an action, with no line end. With no assignments it is `skip`.
+pub fn print_action(alloc: Global, action: &Action, vars: &Vars) -> Result<Bytes, Memory>
+    requires fit { are_fit vars.now ≡ true }
+    requires range { is_action_in_range vars.now action.now ≡ true }
+    ensures { IfOk result (λ text. text ≡ spaced (action_tokens (named_action vars.now action.now))) }
+{
+    let mut tokens = List::new(alloc);
+    push_action(&mut tokens, action, vars)?;
+    spaced(alloc, tokens.as_slice())
+}
