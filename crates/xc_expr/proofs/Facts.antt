@@ -1,11 +1,11 @@
 -- Guards, actions and variables at small cases whose values are known from outside: a wrong definition does not check here.
-use Rattle.std.proofs.Common.{◌≡◌, ℕ, Bool, true, false, List, [], ◌∷◌, ◌++◌, replicate, Some, None, codes, refl}
+use Rattle.std.proofs.Common.{◌≡◌, ℕ, true, false, List, [], ◌∷◌, ◌++◌, replicate, Some, None, codes, refl}
 use Rattle.xc_theory.specs.Codes.{total}
 use Rattle.xc_base.specs.Operators.{chained, chain, chain_up_to}
 use Rattle.xc_expr.specs.declared.domain.Domain.{Domain}
 use Rattle.xc_expr.specs.declared.assign.Assign.TheVariants as assigns
 use Rattle.xc_expr.specs.Variables.{are_fit, is_domain, state_limit}
-use Rattle.xc_expr.specs.Written.{IsGuard, is_variable_name, is_value_name, assignment_tokens, action_tokens, Equal, Unequal, True, False, Not, And, Or, To, Next, Prev, Any}
+use Rattle.xc_expr.specs.Written.{IsGuard, is_variable_name, is_value_name, action_tokens, Equal, Unequal, True, False, Not, And, Or, To, Next, Prev, Any}
 use Rattle.xc_expr.specs.Written.IsSpelled.{truth, factor, summand, negated}
 use Rattle.xc_expr.specs.GuardReading.{atom, basic, nested, product, sum}
 use Rattle.xc_expr.specs.ActionReading.{assignment_in, assignments_in}

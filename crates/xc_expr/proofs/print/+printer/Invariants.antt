@@ -1,5 +1,4 @@
 use Rattle.std.proofs.Common.{◌+◌, ◌*◌}
-use Rattle.xc_expr.specs.Tests.{test_of}
 use Rattle.xc_expr.proofs.print.+printer.Given as goal
 
 abbrev pub decreases-push_operand : goal.decreases-push_operand
