@@ -1,5 +1,5 @@
 -- Guards, actions and variables at small cases whose values are known from outside: a wrong definition does not check here.
-use Rattle.std.proofs.Common.{◌≡◌, ℕ, true, false, List, [], ◌∷◌, ◌++◌, replicate, Some, None, codes, refl}
+use Rattle.std.proofs.Common.{◌≡◌, ℕ, zero, suc, true, false, List, [], ◌∷◌, ◌++◌, replicate, Some, None, codes, refl}
 use Rattle.xc_theory.specs.Codes.{total}
 use Rattle.xc_base.specs.Operators.{chained, chain, chain_up_to}
 use Rattle.xc_expr.specs.declared.domain.Domain.{Domain}
@@ -15,6 +15,7 @@ use Rattle.xc_expr.specs.Resolving.{resolved, resolved_action, sets_twice}
 use Rattle.xc_expr.specs.Tests as tests
 use Rattle.xc_expr.specs.Tests.{holds_at, is_in_range}
 use Rattle.xc_expr.specs.Actions.{allows, is_action_in_range}
+use Rattle.xc_expr.specs.Writable.{depth_of, is_writable_guard, is_writable_action}
 
 -- `true` and `any` are no variables, `any` is no value, and `true` is one
 pub names : (is_variable_name (codes "x") ≡ true) × (is_variable_name (codes "true") ≡ false) × (is_variable_name (codes "any") ≡ false)
@@ -137,3 +138,32 @@ pub no_brackets : (guard_tokens (Or (Or True False) True) ≡ behind_true sum_to
     × (guard_tokens (Or (And True False) True) ≡ behind_true product_tokens (codes "|")) × (guard_tokens (Or True (And True False)) ≡ before (codes "|") product_tokens)
     × (guard_tokens (Not (Not (Equal x o))) ≡ codes "!" ∷ codes "!" ∷ x0) × (guard_tokens (And (Not True) (Unequal x o)) ≡ codes "!" ∷ codes "true" ∷ codes "&" ∷ x ∷ codes "!=" ∷ o ∷ [])
 no_brackets = (refl, refl, refl, refl, refl, refl)
+
+-- a variable called like a value of the one before it can't be written there: x and y have the same values 0 and 1, and here x has the value y
+abbrev named_alike : List Domain
+named_alike = record { name = x; values = o ∷ y ∷ [] } ∷ record { name = y; values = o ∷ y ∷ [] } ∷ []
+
+pub taken_for_values : (is_writable_guard named_alike (tests.Same 0 1) ≡ false) × (is_writable_guard named_alike (tests.Not (tests.Differ 1 1)) ≡ false)
+    × (is_writable_guard named_alike (tests.Same 1 0) ≡ true) × (is_writable_guard named_alike (tests.And (tests.Is 0 1) (tests.Differ 0 0)) ≡ true)
+    × (is_writable_action named_alike (assigns.Copy 0 1 ∷ []) ≡ false) × (is_writable_action named_alike (assigns.Next 0 1 ∷ assigns.Prev 1 1 ∷ []) ≡ true)
+    × (is_writable_action named_alike (assigns.Copy 1 0 ∷ assigns.Any 0 ∷ []) ≡ true)
+taken_for_values = (refl, refl, refl, refl, refl, refl, refl)
+
+-- neither can names that are reserved: `any` is no value and no variable, and `true` is a value only
+abbrev reserved : List Domain
+reserved = record { name = codes "true"; values = codes "any" ∷ codes "true" ∷ [] } ∷ record { name = x; values = codes "any" ∷ codes "true" ∷ [] } ∷ []
+
+pub not_reserved : (is_writable_guard reserved (tests.Is 1 0) ≡ false) × (is_writable_guard reserved (tests.Is 1 1) ≡ true) × (is_writable_guard reserved (tests.Is 0 1) ≡ false)
+    × (is_writable_action reserved (assigns.Value 1 0 ∷ []) ≡ false) × (is_writable_action reserved (assigns.Value 1 1 ∷ []) ≡ true) × (is_writable_action reserved (assigns.Any 0 ∷ []) ≡ false)
+not_reserved = (refl, refl, refl, refl, refl, refl)
+
+-- a test with so many `!` before it
+abbrev negations : ℕ → tests.Test
+negations zero = tests.True
+negations (suc n) = tests.Not (negations n)
+
+-- brackets count like `!`; operators side by side do not nest; 64 around each other can be written, and 65 can't
+pub depths : (depth_of (Not (And True True)) ≡ 2) × (depth_of (Not (Not True)) ≡ 2) × (depth_of (And (And (Not True) True) (Not True)) ≡ 1) × (depth_of (Or True (Or True (Not (Or True True)))) ≡ 3)
+    × (depth_of (And (Or True True) True) ≡ 1) × (depth_of (Or (And True True) True) ≡ 0)
+    × (is_writable_guard vars (negations 64) ≡ true) × (is_writable_guard vars (negations 65) ≡ false)
+depths = (refl, refl, refl, refl, refl, refl, refl, refl)

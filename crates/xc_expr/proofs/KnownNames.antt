@@ -17,7 +17,7 @@ place_of_variable : (vars : List Domain) (name : List ℕ) → position_or_len (
 place_of_variable [] name = refl
 place_of_variable (d ∷ vars) name = ap (λ (n : ℕ). cond (not (bytes_eq name d.name)) (1 + n) 0) (place_of_variable vars name)
 
-names_length : (vars : List Domain) → length (names_of vars) ≡ length vars
+pub names_length : (vars : List Domain) → length (names_of vars) ≡ length vars
 names_length [] = refl
 names_length (d ∷ vars) = ap suc (names_length vars)
 

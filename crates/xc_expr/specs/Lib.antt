@@ -11,6 +11,7 @@ pub mod ActionReading
 pub mod Reading
 pub mod Printing
 pub mod PrintSteps
+pub mod Writable
 pub mod ActionOutcomes
 pub mod Outcomes
 pub mod Laws
