@@ -1,5 +1,5 @@
 -- The definitions at small cases whose values are known from outside: a wrong definition does not check here.
-use Rattle.std.proofs.Common.{◌≡◌, ◌<◌, ◌≤◌, ◌+◌, ℕ, zero, suc, true, false, cond, eqb, List, [], ◌∷◌, refl, ap, slice_index, arith}
+use Rattle.std.proofs.Common.{◌≡◌, ◌<◌, ◌≤◌, ◌+◌, ℕ, zero, suc, true, false, cond, eqb, List, [], ◌∷◌, length, refl, ap, slice_index, arith}
 use Rattle.std.proofs.lemmas.Bool.{false≢true}
 use Rattle.xc_theory.specs.Bounds.{first_meet, first_join}
 use Rattle.xc_theory.proofs.Facts.{two, chain}
@@ -63,31 +63,55 @@ stay f = f
 pub stay_is_monotone : IsMonotone truth 2 stay
 stay_is_monotone = record { in_range = λ f h. h; larger = λ f g hf hg h. h }
 
+pub bottom_stays : IsFixpoint truth 2 stay (λ s. 0)
+unfolding product
+bottom_stays = record { in_range = λ s low. omega arith; fixed = λ s low. refl }
+
+pub top_stays : IsFixpoint truth 2 stay (λ s. 1)
+unfolding product
+top_stays = record { in_range = λ s low. omega arith; fixed = λ s low. refl }
+
 pub bottom_is_least : IsLeastFixpoint truth 2 stay (λ s. 0)
 unfolding product first_join
-bottom_is_least = record { fixpoint = record { in_range = λ s low. omega arith; fixed = λ s low. refl }; first = λ g h s low. truth_laws.bottom_below (g s) (h.in_range s low) }
+bottom_is_least = record { fixpoint = bottom_stays; first = λ g h s low. truth_laws.bottom_below (g s) (h.in_range s low) }
 
 pub top_is_greatest : IsGreatestFixpoint truth 2 stay (λ s. 1)
 unfolding product first_meet
-top_is_greatest = record { fixpoint = record { in_range = λ s low. omega arith; fixed = λ s low. refl }; first = λ g h s low. truth_laws.top_above (g s) (h.in_range s low) }
+top_is_greatest = record { fixpoint = top_stays; first = λ g h s low. truth_laws.top_above (g s) (h.in_range s low) }
 
 pub top_is_not_least : IsLeastFixpoint truth 2 stay (λ s. 1) → ⊥
 unfolding product
-top_is_not_least h = false≢true (h.first (λ s. 0) bottom_is_least.fixpoint 0 (omega arith))
+top_is_not_least h = false≢true (h.first (λ s. 0) bottom_stays 0 (omega arith))
 
 pub bottom_is_not_greatest : IsGreatestFixpoint truth 2 stay (λ s. 0) → ⊥
 unfolding product
-bottom_is_not_greatest h = false≢true (h.first (λ s. 1) top_is_greatest.fixpoint 0 (omega arith))
+bottom_is_not_greatest h = false≢true (h.first (λ s. 1) top_stays 0 (omega arith))
 
--- what a step changes is no fixpoint
+-- what a step changes is no fixpoint, even at the last state alone or where a second step changes it back, and 2 is no element
 pub not_fixed : IsFixpoint truth 2 (λ f s. 1) (λ s. 0) → ⊥
 not_fixed h = let wrong : 0 ≡ 1 = h.fixed 0 (omega arith) in omega (arith, wrong)
+
+pub changed_at_last : IsFixpoint truth 2 (λ f s. 0) (λ s. s) → ⊥
+changed_at_last h = let wrong : 1 ≡ 0 = h.fixed 1 (omega arith) in omega (arith, wrong)
+
+pub changed_back : IsFixpoint truth 2 (λ f s. truth.negation (f s)) (λ s. 0) → ⊥
+unfolding product
+changed_back h = let wrong : 0 ≡ 1 = h.fixed 0 (omega arith) in omega (arith, wrong)
+
+pub stays_out_of_range : IsFixpoint truth 3 stay (λ s. s) → ⊥
+unfolding product
+stays_out_of_range h = let wrong : 2 < 2 = h.in_range 2 (omega arith) in omega (arith, wrong)
 
 -- negation turns the order, and 2 is no element
 pub negation_is_not_monotone : IsMonotone truth 2 (λ f s. truth.negation (f s)) → ⊥
 unfolding product
 negation_is_not_monotone h =
     false≢true (h.larger (λ s. 0) (λ s. 1) (λ s low. omega arith) (λ s low. omega arith) (λ s low. refl) 0 (omega arith))
+
+-- even at the last state alone
+pub negation_at_last : IsMonotone truth 2 (λ f s. cond (eqb s 0) 0 (truth.negation (f s))) → ⊥
+unfolding product
+negation_at_last h = false≢true (h.larger (λ s. 0) (λ s. 1) (λ s low. omega arith) (λ s low. omega arith) (λ s low. refl) 1 (omega arith))
 
 pub out_of_range : IsMonotone truth 2 (λ f s. 2) → ⊥
 unfolding product
@@ -101,6 +125,10 @@ step_below = λ f h s low. refl
 pub step_not_below : IsStepBelow truth 2 (λ f s. 1) (λ f s. 0) → ⊥
 unfolding product
 step_not_below h = false≢true (h (λ s. 0) (λ s low. omega arith) 0 (omega arith))
+
+pub not_below_at_last : IsStepBelow truth 2 (λ f s. s) (λ f s. 0) → ⊥
+unfolding product
+not_below_at_last h = false≢true (h (λ s. 0) (λ s low. omega arith) 1 (omega arith))
 
 -- three states in a row, of which the last one is a goal: T at the states from which it is reached
 abbrev pub reach : Step
@@ -132,10 +160,27 @@ pub not_before_three : Settles truth true 3 reach 2 → ⊥
 unfolding product first_join
 not_before_three h = let wrong : 0 ≡ 1 = h.settled 0 (omega arith) in omega (arith, wrong)
 
+-- at 0 they agree with the next one at the first state alone, and 4 is not the least number
+pub not_at_once : Settles truth true 3 reach 0 → ⊥
+unfolding product first_join
+not_at_once h = let wrong : 0 ≡ 1 = h.settled 2 (omega arith) in omega (arith, wrong)
+
+pub not_after_three : Settles truth true 3 reach 4 → ⊥
+unfolding product first_join
+not_after_three h = h.unsettled 3 (omega arith) (agree_of_values 3 (iterate truth true reach 3) (iterate truth true reach 4) refl)
+
 -- F, T is a longest chain
 pub height_of_truth : IsHeight truth 1
 unfolding product
 height_of_truth = record { chain = 0 ∷ 1 ∷ []; is_chain = (omega arith, refl, (λ e. omega (arith, e)), omega arith); reached = refl; greatest = λ xs is. chain_fits truth truth_laws xs is }
+
+pub lower_than_two : IsHeight truth 2 → ⊥
+unfolding product
+lower_than_two h = let fits : length h.chain ≤ 2 = chain_fits truth truth_laws h.chain h.is_chain in let reached : length h.chain ≡ 3 = h.reached in omega (arith, fits, reached)
+
+pub no_element_in_chain : IsChain truth (2 ∷ []) → ⊥
+unfolding product
+no_element_in_chain h = let wrong : 2 < 2 = h in omega (arith, wrong)
 
 height_of_two : tables.IsHeight two.order 1
 height_of_two =
@@ -195,5 +240,16 @@ no_element h = let wrong : 2 < 2 = h.elements.1.0 in omega (arith, wrong)
 pub changed_list : IsFixedList truth 3 reach (0 ∷ 0 ∷ 0 ∷ []) → ⊥
 changed_list h = let wrong : 1 ≡ 0 = ap (λ (xs : List ℕ). slice_index xs 2) h.fixed in omega (arith, wrong)
 
+pub changed_list_back : IsFixedList truth 2 (λ f s. truth.negation (f s)) (0 ∷ 0 ∷ []) → ⊥
+unfolding product
+changed_list_back h = let wrong : 1 ≡ 0 = ap (λ (xs : List ℕ). slice_index xs 0) h.fixed in omega (arith, wrong)
+
 pub no_counterpart : AreListsBefore truth true (0 ∷ []) (0 ∷ 1 ∷ []) → ⊥
 no_counterpart h = h.1
+
+pub too_many : AreListsBefore truth true (0 ∷ 1 ∷ []) (0 ∷ []) → ⊥
+too_many h = h.1
+
+pub last_not_before : AreListsBefore truth true (0 ∷ 1 ∷ []) (0 ∷ 0 ∷ []) → ⊥
+unfolding product
+last_not_before h = false≢true h.1.0
