@@ -223,12 +223,16 @@ pub higher_than_two : IsHeight (product parts) 2 → ⊥
 higher_than_two h = let wrong : 4 ≤ 3 = h.greatest (0 ∷ 1 ∷ 4 ∷ 5 ∷ []) three_steps in omega (arith, wrong)
 
 -- as lists: F, F is the least that stays as it is, and T, T is not; a list of one element is no function of two states
+pub bottom_list_stays : IsFixedList truth 2 stay (0 ∷ 0 ∷ [])
+unfolding product
+bottom_list_stays = record { sized = refl; elements = (omega arith, (omega arith, tt)); fixed = refl }
+
 pub least_list : IsExtremalList truth true 2 stay (0 ∷ 0 ∷ [])
 least_list = list_of_extremal truth truth_laws 2 stay stay_is_monotone true (λ s. 0) bottom_is_least
 
 pub not_least_list : IsExtremalList truth true 2 stay (1 ∷ 1 ∷ []) → ⊥
 unfolding product
-not_least_list h = false≢true (h.first (0 ∷ 0 ∷ []) least_list.fixpoint).0
+not_least_list h = false≢true (h.first (0 ∷ 0 ∷ []) bottom_list_stays).0
 
 pub too_short : IsFixedList truth 2 stay (0 ∷ []) → ⊥
 too_short h = let wrong : 1 ≡ 2 = h.sized in omega (arith, wrong)
