@@ -9,7 +9,6 @@ ghost use Rattle.xc_base.specs.Formats.{IsAccepted};
 ghost use Rattle.xc_base.specs.Lines.{rows_in};
 ghost use Rattle.xc_merge.specs.Merges.{parts_of, names_of_parts};
 ghost use Rattle.xc_merge.specs.Projections.{states_of};
-ghost use Rattle.xc_merge.specs.MergedFrames.{merged_frame};
 ghost use Rattle.xc_machine.specs.Machines.{merge_of};
 ghost use Rattle.xc_ctl.specs.FormulaFiles.{formula_format, IsStop};
 ghost use Rattle.xc_ctl.specs.Formulas.{nodes_in};

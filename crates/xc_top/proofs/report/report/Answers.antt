@@ -1,6 +1,5 @@
-use Rattle.std.proofs.Common.{rules, map, ap, subst, List}
+use Rattle.std.proofs.Common.{map, subst, List}
 use Rattle.xc_ctl.specs.declared.formula.Formula.{Formula}
-use Rattle.xc_ctl.specs.declared.kind.Kind.{Kind}
 use Rattle.xc_machine.specs.Machines.{merge_of}
 use Rattle.xc_machine.specs.declared.machine.Machine.{Machine}
 use Rattle.std.specs.String.{string_bytes}
