@@ -4,10 +4,11 @@ use Rattle.std.specs.List.{list_all}
 use Rattle.std.proofs.lemmas.List.{map-append, drop_all}
 use Rattle.std.proofs.lemmas.List.Sums.{AllPass-from_list_all}
 use Rattle.xc_base.specs.Lines.{texts}
+use Rattle.xc_base.specs.Words.{is_word}
 use Rattle.xc_base.specs.declared.lines.Lexeme.{Lexeme}
 use Rattle.xc_expr.specs.Actions.{is_assign_in_range}
 use Rattle.xc_expr.specs.Written.{Assigned, assignment_tokens, action_tokens}
-use Rattle.xc_expr.specs.Printing.{named_assignment, named_action, bracketed}
+use Rattle.xc_expr.specs.Printing.{named_assignment, named_action, bracketed, AreMarked}
 use Rattle.xc_expr.specs.PrintSteps.{only_if, tokens_behind}
 use Rattle.xc_expr.specs.declared.assign.Assign.{Assign}
 use Rattle.xc_expr.specs.declared.domain.Domain.{Domain}
@@ -18,6 +19,33 @@ texts_more xs x = map-append (λ (y : Lexeme). y.text.now) xs (x ∷ [])
 
 pub none_more : (ts : List (List ℕ)) → ts ≡ ts ++ []
 none_more ts = sym (append-nil ts)
+
+-- one token more that says rightly whether it is a word
+pub marked_more : (xs : List Lexeme) (x : Lexeme) → x.word ≡ is_word x.text.now → AreMarked xs → AreMarked (xs ++ x ∷ [])
+unfolding AreMarked
+marked_more xs x e h =
+    map-append (λ (y : Lexeme). y.word) xs (x ∷ []) ∙ ap (λ (bs : List Bool). bs ++ x.word ∷ []) h ∙ ap (λ (b : Bool). map (λ (y : Lexeme). is_word y.text.now) xs ++ b ∷ []) e
+    ∙ sym (map-append (λ (y : Lexeme). is_word y.text.now) xs (x ∷ []))
+
+pub marked_none : AreMarked []
+unfolding AreMarked
+marked_none = refl
+
+-- all steps of one token more
+pub ruleset push_steps = (texts_more, marked_more)
+
+-- more tokens
+pub texts_both : (xs ys : List Lexeme) → texts (xs ++ ys) ≡ texts xs ++ texts ys
+texts_both xs ys = map-append (λ (y : Lexeme). y.text.now) xs ys
+
+pub marked_both : (xs ys : List Lexeme) → AreMarked xs → AreMarked ys → AreMarked (xs ++ ys)
+unfolding AreMarked
+marked_both xs ys h k =
+    map-append (λ (y : Lexeme). y.word) xs ys ∙ ap (λ (bs : List Bool). bs ++ map (λ (y : Lexeme). y.word) ys) h ∙ ap (λ (bs : List Bool). map (λ (y : Lexeme). is_word y.text.now) xs ++ bs) k
+    ∙ sym (map-append (λ (y : Lexeme). is_word y.text.now) xs ys)
+
+-- all steps of more tokens
+pub ruleset extend_steps = (texts_both, marked_both)
 
 -- brackets
 pub bracketed_is : (b : Bool) (ts : List (List ℕ)) → bracketed b ts ≡ (only_if b (codes "(") ++ ts) ++ only_if b (codes ")")

@@ -1,6 +1,8 @@
 -- How guards and actions are printed: as they are written, with names in place of variables and values.
-use Rattle.std.specs.Prelude.{ℕ, Bool, true, false, ◌||◌, List, [], ◌∷◌, ◌++◌, map, codes}
+use Rattle.std.specs.Prelude.{◌≡◌, ℕ, Bool, true, false, ◌||◌, List, [], ◌∷◌, ◌++◌, map, codes}
 use Rattle.xc_base.specs.Names.{name_at}
+use Rattle.xc_base.specs.Words.{is_word}
+use Rattle.xc_base.specs.declared.lines.Lexeme.{Lexeme}
 use Rattle.xc_expr.specs.Variables.{names_of, values_at}
 use Rattle.xc_expr.specs.Tests.{Test}
 use Rattle.xc_expr.specs.Tests as tests
@@ -66,3 +68,7 @@ guard_tokens (Unequal x w) = x ∷ codes "!=" ∷ w ∷ []
 guard_tokens (Not g) = codes "!" ∷ bracketed (is_joined g) (guard_tokens g)
 guard_tokens (And g h) = bracketed (is_or g) (guard_tokens g) ++ codes "&" ∷ bracketed (is_joined h) (guard_tokens h)
 guard_tokens (Or g h) = guard_tokens g ++ codes "|" ∷ bracketed (is_or h) (guard_tokens h)
+
+-- each token says rightly whether it is a word
+unfoldable pub AreMarked : List Lexeme → Type 0
+AreMarked tokens = map (λ (x : Lexeme). x.word) tokens ≡ map (λ (x : Lexeme). is_word x.text.now) tokens

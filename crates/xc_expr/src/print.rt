@@ -1,6 +1,6 @@
 //! Guards and actions as text.
 
-ghost use Rattle.std.specs.Prelude.{◌≡◌, ◌<◌, ◌++◌, ◌∷◌, [], true, false, if◌then◌else◌, map, length, codes, IfOk, OnOk};
+ghost use Rattle.std.specs.Prelude.{◌≡◌, ◌<◌, ◌++◌, ◌∷◌, [], true, length, IfOk, OnOk, OnErr};
 ghost use Rattle.std.specs.List.{list_all};
 ghost use Rattle.xc_base.specs.Canonical.{spaced};
 ghost use Rattle.xc_base.specs.Lines.{texts};
@@ -8,7 +8,7 @@ ghost use Rattle.xc_expr.specs.Variables.{are_fit, values_at};
 ghost use Rattle.xc_expr.specs.Tests.{test_of, is_in_range};
 ghost use Rattle.xc_expr.specs.Actions.{is_assign_in_range, is_action_in_range};
 ghost use Rattle.xc_expr.specs.Written.{assignment_tokens, action_tokens};
-ghost use Rattle.xc_expr.specs.Printing.{variable_name, value_name, named_guard, named_assignment, named_action, is_or, is_joined, bracketed, guard_tokens};
+ghost use Rattle.xc_expr.specs.Printing.{variable_name, value_name, named_guard, named_assignment, named_action, is_or, is_joined, bracketed, guard_tokens, AreMarked};
 ghost use Rattle.xc_expr.specs.PrintSteps.{only_if, tokens_behind};
 
 use crate::assign::{Action, Assign};
@@ -18,9 +18,10 @@ use std::alloc::Global;
 use xc_base::{Bytes, Lexeme, List, Memory, is_word_text, spaced};
 
 /// Appends a token.
-#[tactic(auto, using(crate::proofs::Printing::texts_more))]
+#[tactic(auto, using(crate::proofs::Printing::push_steps))]
 fn push<'v>(tokens: &mut List<Lexeme<'v>>, text: &'v [u8]) -> Result<(), Memory>
-    ensures { OnOk result (texts tokens.new ≡ texts tokens.old ++ text.now ∷ []) }
+    ensures texts { OnOk result (texts tokens.new ≡ texts tokens.old ++ text.now ∷ []) }
+    ensures words { OnOk result (AreMarked tokens.old → AreMarked tokens.new) }
 {
     let word = is_word_text(text);
     tokens.push(Lexeme { text, word })
@@ -29,23 +30,25 @@ fn push<'v>(tokens: &mut List<Lexeme<'v>>, text: &'v [u8]) -> Result<(), Memory>
 /// Appends a token, where it is wanted.
 #[tactic(auto, using(crate::proofs::Printing::none_more))]
 fn push_if<'v>(tokens: &mut List<Lexeme<'v>>, text: &'v [u8], wanted: bool) -> Result<(), Memory>
-    ensures { OnOk result (texts tokens.new ≡ texts tokens.old ++ only_if wanted text.now) }
+    ensures texts { OnOk result (texts tokens.new ≡ texts tokens.old ++ only_if wanted text.now) }
+    ensures words { OnOk result (AreMarked tokens.old → AreMarked tokens.new) }
 {
     if wanted { push(tokens, text) } else { Ok(()) }
 }
 
-/// Appends two names with a sign between them.
+/// Appends three tokens.
 fn push_three<'v>(
     tokens: &mut List<Lexeme<'v>>,
-    left: &'v [u8],
-    sign: &'v [u8],
-    right: &'v [u8],
+    first: &'v [u8],
+    second: &'v [u8],
+    third: &'v [u8],
 ) -> Result<(), Memory>
-    ensures { OnOk result (texts tokens.new ≡ texts tokens.old ++ left.now ∷ sign.now ∷ right.now ∷ []) }
+    ensures texts { OnOk result (texts tokens.new ≡ texts tokens.old ++ first.now ∷ second.now ∷ third.now ∷ []) }
+    ensures words { OnOk result (AreMarked tokens.old → AreMarked tokens.new) }
 {
-    push(tokens, left)?;
-    push(tokens, sign)?;
-    push(tokens, right)
+    push(tokens, first)?;
+    push(tokens, second)?;
+    push(tokens, third)
 }
 
 /// The name of a variable.
@@ -78,34 +81,36 @@ fn is_joined(guard: &Guard, vars: &Vars) -> bool
     matches!(guard, Guard::And(..) | Guard::Or(..))
 }
 
-/// Appends the tokens of a guard, in brackets where they are wanted.
+/// Writes the tokens of a guard behind others, in brackets where they are wanted.
 #[tactic(auto, using(crate::proofs::Printing::guard_steps))]
 #[cycle(printer)]
-fn push_operand<'v>(
+fn write_operand<'v>(
     tokens: &mut List<Lexeme<'v>>,
     guard: &Guard,
     vars: &'v Vars,
     brackets: bool,
 ) -> Result<(), Memory>
     requires { is_in_range vars.now (test_of guard.now) ≡ true }
-    ensures { OnOk result (texts tokens.new
+    ensures texts { OnOk result (texts tokens.new
         ≡ texts tokens.old ++ bracketed brackets (guard_tokens (named_guard vars.now (test_of guard.now)))) }
+    ensures words { OnOk result (AreMarked tokens.old → AreMarked tokens.new) }
 {
     push_if(tokens, b"(", brackets)?;
-    push_guard(tokens, guard, vars)?;
+    write_guard(tokens, guard, vars)?;
     push_if(tokens, b")", brackets)
 }
 
-/// Appends the tokens of a guard.
+/// Writes the tokens of a guard behind others.
 #[tactic(auto, using(crate::proofs::Printing::guard_steps))]
 #[cycle(printer)]
-pub fn push_guard<'v>(
+fn write_guard<'v>(
     tokens: &mut List<Lexeme<'v>>,
     guard: &Guard,
     vars: &'v Vars,
 ) -> Result<(), Memory>
     requires { is_in_range vars.now (test_of guard.now) ≡ true }
-    ensures { OnOk result (texts tokens.new ≡ texts tokens.old ++ guard_tokens (named_guard vars.now (test_of guard.now))) }
+    ensures texts { OnOk result (texts tokens.new ≡ texts tokens.old ++ guard_tokens (named_guard vars.now (test_of guard.now))) }
+    ensures words { OnOk result (AreMarked tokens.old → AreMarked tokens.new) }
 {
     match guard {
         Guard::True => push(tokens, b"true"),
@@ -128,19 +133,51 @@ pub fn push_guard<'v>(
         }
         Guard::Not(inner) => {
             push(tokens, b"!")?;
-            push_operand(tokens, inner, vars, is_joined(inner, vars))
+            write_operand(tokens, inner, vars, is_joined(inner, vars))
         }
         Guard::And(left, right) => {
-            push_operand(tokens, left, vars, is_or(left, vars))?;
+            write_operand(tokens, left, vars, is_or(left, vars))?;
             push(tokens, b"&")?;
-            push_operand(tokens, right, vars, is_joined(right, vars))
+            write_operand(tokens, right, vars, is_joined(right, vars))
         }
         Guard::Or(left, right) => {
-            push_guard(tokens, left, vars)?;
+            write_guard(tokens, left, vars)?;
             push(tokens, b"|")?;
-            push_operand(tokens, right, vars, is_or(right, vars))
+            write_operand(tokens, right, vars, is_or(right, vars))
         }
     }
+}
+
+#[tactic(auto, using(crate::proofs::Printing::marked_none))]
+fn lexemes_of_guard<'v>(
+    alloc: Global,
+    guard: &Guard,
+    vars: &'v Vars,
+) -> Result<List<Lexeme<'v>>, Memory>
+    requires { is_in_range vars.now (test_of guard.now) ≡ true }
+    ensures texts { IfOk result (λ xs. texts xs ≡ guard_tokens (named_guard vars.now (test_of guard.now))) }
+    ensures words { IfOk result AreMarked }
+{
+    let mut tokens = List::new(alloc);
+    write_guard(&mut tokens, guard, vars)?;
+    Ok(tokens)
+}
+
+/// Appends the tokens of a guard. A list for which there is no memory stays as it was.
+#[tactic(auto, using(crate::proofs::Printing::extend_steps))]
+pub fn push_guard<'v>(
+    alloc: Global,
+    tokens: &mut List<Lexeme<'v>>,
+    guard: &Guard,
+    vars: &'v Vars,
+) -> Result<(), Memory>
+    requires { is_in_range vars.now (test_of guard.now) ≡ true }
+    ensures texts { OnOk result (texts tokens.new ≡ texts tokens.old ++ guard_tokens (named_guard vars.now (test_of guard.now))) }
+    ensures words { OnOk result (AreMarked tokens.old → AreMarked tokens.new) }
+    ensures err { OnErr result (tokens.new ≡ tokens.old) }
+{
+    let more = lexemes_of_guard(alloc, guard, vars)?;
+    tokens.extend(more.as_slice())
 }
 
 /// The canonical text of a guard, with no line end.
@@ -149,20 +186,20 @@ pub fn print_guard(alloc: Global, guard: &Guard, vars: &Vars) -> Result<Bytes, M
     requires range { is_in_range vars.now (test_of guard.now) ≡ true }
     ensures { IfOk result (λ text. text ≡ spaced (guard_tokens (named_guard vars.now (test_of guard.now)))) }
 {
-    let mut tokens = List::new(alloc);
-    push_guard(&mut tokens, guard, vars)?;
+    let tokens = lexemes_of_guard(alloc, guard, vars)?;
     spaced(alloc, tokens.as_slice())
 }
 
-/// Appends the tokens of an assignment.
+/// Writes the tokens of an assignment behind others.
 #[tactic(auto, using(crate::proofs::Printing::guard_steps))]
-fn push_assignment<'v>(
+fn write_assignment<'v>(
     tokens: &mut List<Lexeme<'v>>,
     assign: &Assign,
     vars: &'v Vars,
 ) -> Result<(), Memory>
     requires { is_assign_in_range vars.now assign.now ≡ true }
-    ensures { OnOk result (texts tokens.new ≡ texts tokens.old ++ assignment_tokens (named_assignment vars.now assign.now)) }
+    ensures texts { OnOk result (texts tokens.new ≡ texts tokens.old ++ assignment_tokens (named_assignment vars.now assign.now)) }
+    ensures words { OnOk result (AreMarked tokens.old → AreMarked tokens.new) }
 {
     match *assign {
         Assign::Value { var, value } => {
@@ -185,38 +222,72 @@ fn push_assignment<'v>(
     }
 }
 
-/// Appends the tokens of assignments, each with `;` before it.
+/// Writes the tokens of assignments behind others, each with `;` before it.
 #[tactic(auto, using(std::proofs::lemmas::Grind::common_steps, crate::proofs::Printing::action_steps))]
-fn push_others<'v>(
+fn write_others<'v>(
     tokens: &mut List<Lexeme<'v>>,
     others: &[Assign],
     vars: &'v Vars,
 ) -> Result<(), Memory>
     requires { list_all (is_assign_in_range vars.now) others.now ≡ true }
-    ensures { OnOk result (texts tokens.new ≡ texts tokens.old ++ tokens_behind (named_action vars.now others.now)) }
+    ensures texts { OnOk result (texts tokens.new ≡ texts tokens.old ++ tokens_behind (named_action vars.now others.now)) }
+    ensures words { OnOk result (AreMarked tokens.old → AreMarked tokens.new) }
 {
     for assign in others {
         push(tokens, b";")?;
-        push_assignment(tokens, assign, vars)?;
+        write_assignment(tokens, assign, vars)?;
     }
     Ok(())
 }
 
-/// Appends the tokens of an action.
+/// Writes the tokens of an action behind others.
 #[tactic(auto, using(std::proofs::lemmas::Grind::common_steps, crate::proofs::Printing::whole_steps))]
-pub fn push_action<'v>(
+fn write_action<'v>(
     tokens: &mut List<Lexeme<'v>>,
     action: &Action,
     vars: &'v Vars,
 ) -> Result<(), Memory>
     requires { is_action_in_range vars.now action.now ≡ true }
-    ensures { OnOk result (texts tokens.new ≡ texts tokens.old ++ action_tokens (named_action vars.now action.now)) }
+    ensures texts { OnOk result (texts tokens.new ≡ texts tokens.old ++ action_tokens (named_action vars.now action.now)) }
+    ensures words { OnOk result (AreMarked tokens.old → AreMarked tokens.new) }
 {
     let [first, others @ ..] = action.as_slice() else {
         return push(tokens, b"skip");
     };
-    push_assignment(tokens, first, vars)?;
-    push_others(tokens, others, vars)
+    write_assignment(tokens, first, vars)?;
+    write_others(tokens, others, vars)
+}
+
+#[tactic(auto, using(crate::proofs::Printing::marked_none))]
+fn lexemes_of_action<'v>(
+    alloc: Global,
+    action: &Action,
+    vars: &'v Vars,
+) -> Result<List<Lexeme<'v>>, Memory>
+    requires { is_action_in_range vars.now action.now ≡ true }
+    ensures texts { IfOk result (λ xs. texts xs ≡ action_tokens (named_action vars.now action.now)) }
+    ensures words { IfOk result AreMarked }
+{
+    let mut tokens = List::new(alloc);
+    write_action(&mut tokens, action, vars)?;
+    Ok(tokens)
+}
+
+/// Appends the tokens of an action. A list for which there is no memory stays as it was.
+#[tactic(auto, using(crate::proofs::Printing::extend_steps))]
+pub fn push_action<'v>(
+    alloc: Global,
+    tokens: &mut List<Lexeme<'v>>,
+    action: &Action,
+    vars: &'v Vars,
+) -> Result<(), Memory>
+    requires { is_action_in_range vars.now action.now ≡ true }
+    ensures texts { OnOk result (texts tokens.new ≡ texts tokens.old ++ action_tokens (named_action vars.now action.now)) }
+    ensures words { OnOk result (AreMarked tokens.old → AreMarked tokens.new) }
+    ensures err { OnErr result (tokens.new ≡ tokens.old) }
+{
+    let more = lexemes_of_action(alloc, action, vars)?;
+    tokens.extend(more.as_slice())
 }
 
 /// The canonical text of an action, with no line end. With no assignments it is `skip`.
@@ -225,7 +296,6 @@ pub fn print_action(alloc: Global, action: &Action, vars: &Vars) -> Result<Bytes
     requires range { is_action_in_range vars.now action.now ≡ true }
     ensures { IfOk result (λ text. text ≡ spaced (action_tokens (named_action vars.now action.now))) }
 {
-    let mut tokens = List::new(alloc);
-    push_action(&mut tokens, action, vars)?;
+    let tokens = lexemes_of_action(alloc, action, vars)?;
     spaced(alloc, tokens.as_slice())
 }

@@ -134,12 +134,12 @@ fn guards_and_actions_are_parts_of_lines(rt: HostRuntime) -> Result<(), Fail> {
         text: b"when",
         word: true,
     })?;
-    push_guard(&mut tokens, &guard, &vars)?;
+    push_guard(alloc, &mut tokens, &guard, &vars)?;
     tokens.push(Lexeme {
         text: b"do",
         word: true,
     })?;
-    push_action(&mut tokens, &action, &vars)?;
+    push_action(alloc, &mut tokens, &action, &vars)?;
     let text = spaced(alloc, tokens.as_slice())?;
     assert_eq!(rt; text.as_slice(), b"when a=c&b=b do b:=next a".as_slice());
     Ok(())

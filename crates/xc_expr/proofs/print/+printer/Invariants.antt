@@ -1,8 +1,8 @@
 use Rattle.std.proofs.Common.{◌+◌, ◌*◌}
 use Rattle.xc_expr.proofs.print.+printer.Given as goal
 
-abbrev pub decreases-push_operand : goal.decreases-push_operand
-decreases-push_operand l = 2 * goal.size-push_operand l + 1
+abbrev pub decreases-write_operand : goal.decreases-write_operand
+decreases-write_operand l = 2 * goal.size-write_operand l + 1
 
-abbrev pub decreases-push_guard : goal.decreases-push_guard
-decreases-push_guard l = 2 * goal.size-push_guard l
+abbrev pub decreases-write_guard : goal.decreases-write_guard
+decreases-write_guard l = 2 * goal.size-write_guard l

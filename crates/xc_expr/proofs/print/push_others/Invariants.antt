@@ -1,9 +1,0 @@
--- The tokens that are written, and those of the assignments that are left.
-use Rattle.std.proofs.Common.{◌≡◌, ◌++◌, drop}
-use Rattle.xc_base.specs.Lines.{texts}
-use Rattle.xc_expr.specs.Printing.{named_action}
-use Rattle.xc_expr.specs.PrintSteps.{tokens_behind}
-use Rattle.xc_expr.proofs.print.push_others.Given as goal
-
-abbrev pub invariant-loop-assign : goal.invariant-loop-assign
-invariant-loop-assign l = texts l.tokens ++ tokens_behind (named_action l.vars (drop l.assign-index l.others)) ≡ texts l.fn.tokens ++ tokens_behind (named_action l.vars l.others)
