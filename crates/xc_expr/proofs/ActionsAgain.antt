@@ -12,7 +12,7 @@ use Rattle.xc_expr.proofs.Choices.{then_some_is, both_is, map_is}
 use Rattle.xc_expr.proofs.KnownNames.{names_length}
 use Rattle.xc_expr.proofs.NamedPlaces.{variable_back, peer_back, operand_back, value_there, peers_there, names_differ, variable_known, peer_known, value_operand, peer_operand}
 use Rattle.xc_expr.specs.Actions.{assigned, assigns, is_assign_in_range, assigns_twice, is_action_in_range}
-use Rattle.xc_expr.specs.Laws.{PrintedActionsAreRead, ReadActionsAreWritable, AssignsAreUnique}
+use Rattle.xc_expr.specs.Laws.{PrintedActionsAreRead, ReadActionsAreWritable, AssignsAreUnique, ActionsKeepTheirTokens}
 use Rattle.xc_expr.specs.Outcomes.{AreAssigns}
 use Rattle.xc_expr.specs.Printing.{variable_name, value_name, named_assignment, named_action}
 use Rattle.xc_expr.specs.Resolving.{then_some, both, variable, value, peer, operand, resolved_assignment, resolved_action, set_name, sets_twice}
@@ -142,3 +142,7 @@ printed_actions_are_read vars bs fit range h =
 pub assigns_are_unique : AssignsAreUnique
 assigns_are_unique vars tokens bs cs h k =
     same_Some _ _ (sym h.known ∙ ap (resolved_action vars) (actions_are_unique tokens h.action k.action h.spelled k.spelled) ∙ k.known)
+
+-- an action is printed with the tokens that were read
+pub actions_keep_their_tokens : ActionsKeepTheirTokens
+actions_keep_their_tokens vars tokens bs h = ap action_tokens (action_back vars h.action bs h.known).named ∙ sym h.spelled.spelled

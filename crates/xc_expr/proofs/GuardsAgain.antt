@@ -7,9 +7,11 @@ use Rattle.xc_expr.proofs.Choices.{then_some_is, both_is, map_is}
 use Rattle.xc_expr.proofs.GuardReading.{guard_unique}
 use Rattle.xc_expr.proofs.GuardPrints.{spelled_deep, spelled_names, printed_sum}
 use Rattle.xc_expr.proofs.NamedPlaces.{variable_back, operand_back, value_there, peers_there, variable_known, value_operand, peer_operand}
-use Rattle.xc_expr.specs.Laws.{PrintedGuardsAreRead, ReadGuardsAreWritable, TestsAreUnique}
+use Rattle.xc_expr.proofs.ShortPrints.{spelled_longer}
+use Rattle.xc_expr.specs.Laws.{PrintedGuardsAreRead, ReadGuardsAreWritable, TestsAreUnique, NoPrintIsLonger}
+use Rattle.xc_expr.specs.LineParts.{IsNoLonger}
 use Rattle.xc_expr.specs.Outcomes.{IsTest}
-use Rattle.xc_expr.specs.Printing.{variable_name, value_name, named_guard}
+use Rattle.xc_expr.specs.Printing.{variable_name, value_name, named_guard, guard_tokens}
 use Rattle.xc_expr.specs.Resolving.{then_some, both, variable, value, peer, operand, resolved}
 use Rattle.xc_expr.specs.Tests.{Test, has_value, are_peers, is_in_range}
 use Rattle.xc_expr.specs.Tests as tests
@@ -108,3 +110,8 @@ printed_guards_are_read vars t fit range h =
 pub tests_are_unique : TestsAreUnique
 tests_are_unique vars tokens t u h k =
     same_Some _ _ (sym h.known ∙ ap (resolved vars) (guard_unique tokens h.guard k.guard h.spelled k.spelled) ∙ k.known)
+
+-- a guard is printed no longer than it was read
+pub no_print_is_longer : NoPrintIsLonger
+no_print_is_longer vars tokens t h =
+    subst (λ (g : Written). IsNoLonger tokens (guard_tokens g)) (sym (named_back vars h.guard t h.known).named) (spelled_longer Sum depth_limit tokens h.guard h.spelled)

@@ -12,6 +12,7 @@ pub mod Reading
 pub mod Printing
 pub mod PrintSteps
 pub mod Writable
+pub mod LineParts
 pub mod ActionOutcomes
 pub mod Outcomes
 pub mod Laws
