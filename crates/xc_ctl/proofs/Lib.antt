@@ -11,11 +11,13 @@ pub mod NameSteps
 pub mod Nodes
 pub mod ParserSteps
 pub mod PathFacts
+pub mod PrintFacts
 pub mod Printing
 pub mod Ranges
 pub mod Reading
 pub mod RoundTables
 pub mod Sizes
+pub mod TableTrees
 pub mod TreeTables
 pub mod Verdicts
 pub mod WrittenOut

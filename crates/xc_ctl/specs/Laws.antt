@@ -7,8 +7,9 @@ use Rattle.xc_product.specs.Heights.{AreHeights}
 use Rattle.xc_base.specs.declared.fault.FileFault.{FileFault}
 use Rattle.xc_base.specs.Formats.{Row, IsAccepted, IsFirstFault}
 use Rattle.xc_ctl.specs.Written.{Written, IsFormula}
-use Rattle.xc_ctl.specs.Trees.{Signature}
-use Rattle.xc_ctl.specs.Tables.{are_ordered_from, is_table_in}
+use Rattle.xc_ctl.specs.Trees.{Signature, Tree}
+use Rattle.xc_ctl.specs.Tables.{nodes_of, are_ordered_from, is_table_in}
+use Rattle.xc_ctl.specs.TableTrees.{formula_of}
 use Rattle.xc_ctl.specs.FormulaFiles.{formula_format}
 use Rattle.xc_ctl.specs.Reading.{formula_in}
 use Rattle.xc_ctl.specs.Frames.{Frame, IsFrame}
@@ -22,6 +23,10 @@ FormulasAreRead = (tokens : List (List ℕ)) (f : Written) → (formula_in token
 
 abbrev pub FormulasAreUnique : Type 0
 FormulasAreUnique = (tokens : List (List ℕ)) (f g : Written) → IsFormula tokens f → IsFormula tokens g → f ≡ g
+
+-- the table of a tree stands for that tree
+abbrev pub TablesStandForTrees : Type 0
+TablesStandForTrees = (tree : Tree) → formula_of (nodes_of tree) ≡ tree
 
 -- no file says two lists of formulas
 abbrev pub TablesAreUnique : Type 0

@@ -2,6 +2,7 @@ pub mod Written
 pub mod Trees
 pub mod Texts
 pub mod Tables
+pub mod TableTrees
 pub mod FormulaFiles
 pub mod Formulas
 pub mod Deciding

@@ -1,5 +1,5 @@
 //! Laws of the definitions in `specs/`, carried by a function with an empty body.
-ghost use Rattle.xc_ctl.specs.Laws.{FormulasAreRead, FormulasAreUnique};
+ghost use Rattle.xc_ctl.specs.Laws.{FormulasAreRead, FormulasAreUnique, TablesStandForTrees};
 ghost use Rattle.xc_ctl.specs.Laws.{RoundsExist, RoundsAreUnique, RoundsAreFew};
 ghost use Rattle.xc_ctl.specs.Laws.{DenotationsExist, DenotationsAreUnique, DenotationsAreInRange, FormulasDenote, FormulasDenoteOnce};
 
@@ -27,4 +27,10 @@ pub fn formulas_have_one_table()
 pub fn formulas_are_read()
     ensures read { FormulasAreRead }
     ensures unique { FormulasAreUnique }
+{}
+
+/// The table of a formula that is written out stands for that formula.
+#[tactic(auto, using(crate::proofs::TableTrees::table_of_tree))]
+pub fn tables_stand_for_trees()
+    ensures { TablesStandForTrees }
 {}

@@ -2,6 +2,7 @@
 #![tactic(auto)]
 
 mod atom_parser;
+mod canonical;
 mod elements;
 mod formula;
 mod framed;
@@ -14,6 +15,7 @@ mod phrase;
 mod prefix;
 mod printer;
 mod reader;
+mod rebuilt;
 mod resolver;
 mod rounds;
 mod rows;
@@ -23,15 +25,21 @@ mod vocabulary;
 mod words;
 mod written_out;
 
+pub use canonical::print;
 pub use formula::{Formula, Formulas};
 pub use framed::{Framed, machines_are_frames, weighed};
 pub use kind::Kind;
-pub use laws::{formulas_are_read, formulas_have_one_denotation, formulas_have_one_table};
+pub use laws::{
+    formulas_are_read, formulas_have_one_denotation, formulas_have_one_table,
+    tables_stand_for_trees,
+};
 pub use reader::read_formulas;
 pub use rounds::Rounds;
 pub use verdict::files_have_one_reading;
 
 #[cfg(test)]
 mod machine_tests;
+#[cfg(test)]
+mod print_tests;
 #[cfg(test)]
 mod tests;

@@ -16,7 +16,7 @@ use xc_base::{Bytes, FileFault, Lexeme, List, Memory, Stop, Word, cut_lines};
 
 const LONG: &[u8] = b"a_name_that_has_thirty_two_bytes";
 
-fn props(alloc: Global) -> Result<List<Word>, Memory>
+pub(crate) fn props(alloc: Global) -> Result<List<Word>, Memory>
     ensures { IfOk result (λ names. names
         ≡ codes "p" ∷ codes "q" ∷ codes "r" ∷ codes "a_name_that_has_thirty_two_bytes" ∷ []) }
 {
@@ -28,7 +28,7 @@ fn props(alloc: Global) -> Result<List<Word>, Memory>
     Ok(names)
 }
 
-fn parts(alloc: Global) -> Result<List<List<Word>>, Memory>
+pub(crate) fn parts(alloc: Global) -> Result<List<List<Word>>, Memory>
     ensures { IfOk result (λ parts. parts
         ≡ (codes "F" ∷ codes "T" ∷ []) ∷ (codes "F" ∷ codes "M" ∷ codes "T" ∷ []) ∷ []) }
 {
@@ -60,7 +60,7 @@ fn kind_told(alloc: Global, kind: Kind) -> Result<String, AllocError> {
 }
 
 /// The nodes of each formula, with a `;` behind each.
-fn told(alloc: Global, formulas: &Formulas) -> Result<String, AllocError> {
+pub(crate) fn told(alloc: Global, formulas: &Formulas) -> Result<String, AllocError> {
     let mut text = String::new(alloc);
     for formula in formulas.items.as_slice() {
         for kind in formula.nodes().as_slice() {
