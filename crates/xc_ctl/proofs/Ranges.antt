@@ -32,7 +32,7 @@ both_digits names parts v (Some d) (Some ds) row e rest h =
     subst (AreDigits (sizes_of (names ∷ parts))) same (found_in_range names v d e, rest ds refl)
 
 -- named digits are digits
-named_digits : (parts : List (List (List ℕ))) (values : List (List ℕ)) (row : List ℕ) → digits_named parts values ≡ Some row → AreDigits (sizes_of parts) row
+pub named_digits : (parts : List (List (List ℕ))) (values : List (List ℕ)) (row : List ℕ) → digits_named parts values ≡ Some row → AreDigits (sizes_of parts) row
 named_digits [] [] row h = let same : [] ≡ row = cc in subst (AreDigits []) same tt
 named_digits [] (v ∷ values) row h = cc
 named_digits (names ∷ parts) [] row h = cc

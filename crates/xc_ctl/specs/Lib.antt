@@ -9,6 +9,7 @@ pub mod Deciding
 pub mod FormulaReading
 pub mod Printing
 pub mod Reading
+pub mod Rereading
 pub mod Resolving
 pub mod Frames
 pub mod Denotations

@@ -1,11 +1,16 @@
 //! Canonical texts of formulas.
 
-ghost use Rattle.std.specs.Prelude.{◌≡◌, true, length, IfOk};
+ghost use Rattle.std.specs.Prelude.{◌≡◌, ◌≤◌, ◌∷◌, [], ℕ, true, List as Items, length, None, IfOk};
 ghost use Rattle.xc_theory.specs.Codes.{total};
-ghost use Rattle.xc_ctl.specs.Trees.{is_fit, sizes_of};
+ghost use Rattle.xc_base.specs.Formats.{IsAccepted};
+ghost use Rattle.xc_base.specs.Lines.{text_rows};
+ghost use Rattle.xc_base.specs.Text.{text_fault};
+ghost use Rattle.xc_ctl.specs.Trees.{Signature, is_fit, sizes_of};
 ghost use Rattle.xc_ctl.specs.Tables.{is_table_in};
 ghost use Rattle.xc_ctl.specs.TableTrees.{formula_of};
 ghost use Rattle.xc_ctl.specs.Texts.{text_of};
+ghost use Rattle.xc_ctl.specs.FormulaFiles.{text_limit, formula_format};
+ghost use Rattle.xc_ctl.specs.Rereading.{IsGiven, IsOneLine};
 
 use crate::formula::Formula;
 use crate::printer::text_of;
@@ -17,7 +22,8 @@ use xc_base::{Bytes, List, Memory, Word};
 /// The text of a formula, without a line's end, or the want of memory for it.
 ///
 /// `props` are the names of the propositions, `parts` the names of the elements of each part, and `bottom` and `top` the
-/// codes of the least and the greatest element of their product.
+/// codes of the least and the greatest element of their product. With these a formula that was read is read again from its
+/// text.
 pub fn print(
     alloc: Global,
     formula: &Formula,
@@ -28,7 +34,10 @@ pub fn print(
 ) -> Result<Bytes, Memory>
     requires fit { is_fit (record { props = props.now; parts = parts.now; bottom = bottom; top = top }) ≡ true }
     requires range { is_table_in (total (sizes_of parts.now)) (length props.now) formula.now.nodes ≡ true }
-    ensures text { IfOk result (λ text. text ≡ text_of (record { props = props.now; parts = parts.now; bottom = bottom; top = top }) (formula_of formula.now.nodes)) }
+    ensures text { let n : Signature = record { props = props.now; parts = parts.now; bottom = bottom; top = top } in IfOk result (λ text. text ≡ text_of n (formula_of formula.now.nodes)) }
+    ensures again { let n : Signature = record { props = props.now; parts = parts.now; bottom = bottom; top = top } in IfOk result (λ text. IsGiven n formula.now.nodes → (file : Items ℕ) → IsOneLine text file → IsAccepted (formula_format n) (text_rows file) (formula.now.nodes ∷ [])) }
+    ensures sound { let n : Signature = record { props = props.now; parts = parts.now; bottom = bottom; top = top } in IfOk result (λ text. IsGiven n formula.now.nodes → (file : Items ℕ) → IsOneLine text file → (limit : ℕ) → length file ≤ limit → text_fault limit file ≡ None) }
+    ensures short { let n : Signature = record { props = props.now; parts = parts.now; bottom = bottom; top = top } in IfOk result (λ text. IsGiven n formula.now.nodes → length text ≤ text_limit) }
 {
     let vocabulary = Vocabulary {
         props,
