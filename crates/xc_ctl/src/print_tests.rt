@@ -107,3 +107,42 @@ fn shared_nodes_are_printed_twice(rt: HostRuntime) -> Result<(), Fail> {
     assert!(rt; text.as_slice() == b"(p|q)&(p|q)".as_slice());
     Ok(())
 }
+
+/// A piece so many times, a middle, and another piece as often.
+fn around(
+    alloc: Global,
+    front: &[u8],
+    middle: &[u8],
+    back: &[u8],
+    times: u32,
+) -> Result<List<u8>, Memory> {
+    let mut text = List::new(alloc);
+    for _ in 0..times {
+        text.extend(front)?;
+    }
+    text.extend(middle)?;
+    for _ in 0..times {
+        text.extend(back)?;
+    }
+    Ok(text)
+}
+
+#[test]
+fn deep_formulas_are_printed_and_read_again(rt: HostRuntime) -> Result<(), Fail> {
+    let alloc = rt.alloc();
+    // each of 253 or 256 nodes
+    let table: [(&[u8], &[u8], &[u8], u32); 4] = [
+        (b"!", b"p", b"", 255),
+        (b"!(p|", b"p", b")", 85),
+        (b"p&(", b"q", b"&r)", 63),
+        (b"E[p U!", b"p", b"]", 85),
+    ];
+    for (front, middle, back, times) in table {
+        let file = around(alloc, front, middle, back, times)?;
+        let given = printed(alloc, file.as_slice())?;
+        assert!(rt; given.text.as_slice() == file.as_slice());
+        let again = printed(alloc, given.text.as_slice())?;
+        assert_eq!(rt; again.nodes.as_str(), given.nodes.as_str());
+    }
+    Ok(())
+}
