@@ -1,7 +1,7 @@
 -- The code of places, as a loop comes to it.
-use Rattle.std.proofs.Common.{◌≡◌, ℕ, zero, suc, ◌+◌, ◌*◌, ◌<◌, ◌≤◌, List, [], ◌∷◌, length, get_or, take, drop, refl, sym, ◌∙◌, ap, subst, arith}
+use Rattle.std.proofs.Common.{◌≡◌, ℕ, zero, suc, ◌+◌, ◌*◌, ◌<◌, ◌≤◌, List, [], ◌∷◌, length, get_or, drop, sym, ◌∙◌, ap, arith}
 use Rattle.std.proofs.lemmas.List.{drop_more, drop_all}
-use Rattle.xc_theory.specs.Codes.{total, code_of, AreDigits}
+use Rattle.xc_theory.specs.Codes.{total, code_of}
 
 turn : (code s d t c : ℕ) → code * (s * t) + (d * t + c) ≡ (code * s + d) * t + c
 turn code s d t c = grind arith

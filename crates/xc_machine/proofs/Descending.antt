@@ -5,19 +5,17 @@ use Rattle.std.specs.List.{list_all, filter, range_with_len}
 use Rattle.std.proofs.lemmas.Bool.{cases_lt, ltb-true, true≢false, and_left}
 use Rattle.std.proofs.lemmas.List.{take_more_set, map_more, take_all, length-map, get_or-map, get_or_past, append-nil, append_assoc, length-append}
 use Rattle.std.proofs.lemmas.List.FromFn.{length-range_with_len}
-use Rattle.xc_theory.specs.Codes.{digits, total, AreDigits}
-use Rattle.xc_theory.proofs.Codes.{digits_are_in_range}
+use Rattle.xc_theory.specs.Codes.{total, AreDigits}
 use Rattle.xc_expr.specs.Tests.{holds_at}
-use Rattle.xc_expr.specs.Variables.{sizes_of, are_fit}
+use Rattle.xc_expr.specs.Variables.{sizes_of}
 use Rattle.xc_expr.specs.declared.domain.Domain.{Domain}
 use Rattle.xc_expr.proofs.Moving.{sizes_length}
-use Rattle.xc_view.specs.Meaning.{row_at}
 use Rattle.xc_sigmap.specs.MapFiles.{MapValue}
 use Rattle.xc_merge.specs.Merges.{Merge, Viewpoint, viewpoint_at}
 use Rattle.xc_merge.specs.Projections.{states_of, row_of, row_seen, place_seen, projection, source, carried}
 use Rattle.xc_merge.specs.MergedFrames.{is_initial_for, is_merged_initial, initials_of}
 use Rattle.xc_machine.specs.declared.judgement.Judgement.{Judgement}
-use Rattle.xc_machine.specs.declared.judgement.Judgement.TheVariants.{Holds, Fails, Open}
+use Rattle.xc_machine.specs.declared.judgement.Judgement.TheVariants.{Holds, Fails}
 use Rattle.xc_machine.specs.declared.tables.Feed.{Feed}
 use Rattle.xc_machine.specs.declared.tables.Tables.{Tables}
 use Rattle.xc_machine.specs.declared.initials.Block.{Block}

@@ -1,22 +1,20 @@
 -- What the tables of a viewpoint tell by places.
-use Rattle.std.proofs.Common.{◌≡◌, ℕ, ◌<◌, ◌≤◌, Bool, true, false, List, [], ◌∷◌, length, map, get_or, slice_index, Option, Some, None, refl, sym, ◌∙◌, ap, subst, arith}
+use Rattle.std.proofs.Common.{◌≡◌, ℕ, ◌<◌, Bool, List, length, get_or, Option, Some, None, refl, sym, ◌∙◌, ap, subst, arith}
 use Rattle.std.specs.Prelude.{IfSome}
 use Rattle.std.proofs.lemmas.List.{length-map, get_or-map, get_or_default, get_or_read}
 use Rattle.xc_theory.specs.Lattices.{size}
-use Rattle.xc_expr.specs.Variables.{values_at}
-use Rattle.xc_expr.specs.declared.domain.Domain.{Domain}
 use Rattle.xc_lattice.specs.Values.{value_of as lattice_of}
 use Rattle.xc_lattice.specs.declared.lattice.Lattice.{Lattice}
-use Rattle.xc_view.specs.ViewFiles.{ViewValue, PropValue, CommandValue}
+use Rattle.xc_view.specs.ViewFiles.{PropValue}
 use Rattle.xc_view.specs.declared.view.View.{View}
 use Rattle.xc_sigmap.specs.Maps.{value_of as map_of}
 use Rattle.xc_sigmap.specs.MapFiles.{MapValue}
 use Rattle.xc_sigmap.specs.declared.sigmap.SigMap.{SigMap}
 use Rattle.xc_merge.specs.Merges.{Viewpoint, viewpoint_at}
 use Rattle.xc_merge.specs.Merging.{viewpoint_of, merge_in}
-use Rattle.xc_merge.specs.Pieces.{weight, mark, counts, fixed}
+use Rattle.xc_merge.specs.Pieces.{weight, mark, counts}
 use Rattle.xc_machine.specs.Places.{variable_at, command_at, line_at}
-use Rattle.xc_machine.specs.Tabled.{IsFeed, IsTelling, AreTables, AreWeights, IsGood}
+use Rattle.xc_machine.specs.Tabled.{IsFeed, IsTelling, AreTables, IsGood}
 use Rattle.xc_machine.specs.declared.tables.Feed.{Feed}
 use Rattle.xc_machine.specs.declared.tables.Tables.{Tables}
 use Rattle.xc_machine.specs.declared.tables.Telling.{Telling}

@@ -2,7 +2,6 @@
 use Rattle.std.proofs.Common.{◌≡◌, ◌<◌, ◌≤◌, ◌+◌, ℕ, zero, suc, Bool, true, false, List, [], ◌∷◌, slice_index, Some, None, codes, refl, ap, arith}
 use Rattle.std.proofs.lemmas.Bool.{false≢true, true≢false}
 use Rattle.xc_theory.specs.Bounds.{first_join}
-use Rattle.xc_theory.specs.Lattices.{LatticeData}
 use Rattle.xc_theory.proofs.Facts.{two, chain, diamond}
 use Rattle.xc_alg.specs.Products.{product}
 use Rattle.xc_lattice.specs.LatticeFiles.{LatticeValue}
@@ -10,7 +9,6 @@ use Rattle.xc_expr.specs.Tests as tests
 use Rattle.xc_expr.specs.declared.domain.Domain.{Domain}
 use Rattle.xc_expr.specs.declared.guard.Guard.TheVariants as guards
 use Rattle.xc_expr.specs.declared.assign.Assign.TheVariants as assigns
-use Rattle.xc_view.specs.ViewFiles.{ViewValue}
 use Rattle.xc_view.specs.declared.lines.PropLine.{PropLine}
 use Rattle.xc_view.specs.declared.lines.Command.{Command}
 use Rattle.xc_sigmap.specs.MapFiles.{MapValue}
@@ -25,10 +23,9 @@ use Rattle.xc_machine.specs.Joins.{has_guard_in, has_action_in, has_test_in, lea
 use Rattle.xc_machine.specs.Judging.{is_known, said, opposite, in_both, in_one, judged, IsRight, Agrees}
 use Rattle.xc_machine.specs.Places.{variable_at, command_at, line_at}
 use Rattle.xc_machine.specs.Seeing.{place_by, seen_by, AreReadable}
-use Rattle.xc_machine.specs.Tabled.{IsGood, IsFeed, IsTelling, AreFed, AreFeeds, AreTellings, AreWeights, AreTables}
+use Rattle.xc_machine.specs.Tabled.{IsGood, IsFeed, IsTelling, AreFed, AreWeights, AreTables}
 use Rattle.xc_machine.specs.declared.judgement.Judgement.TheVariants.{Holds, Fails, Open}
 use Rattle.xc_machine.specs.declared.tables.Feed.{Feed}
-use Rattle.xc_machine.specs.declared.tables.Telling.{Telling}
 use Rattle.xc_machine.specs.declared.tables.Tables.{Tables}
 
 -- What a guard says of the places 1, 0, 2 of which the second is not known.
@@ -141,11 +138,10 @@ unfolding known_by
 knowing = (refl, refl, refl)
 
 pub not_readable : (AreReadable feeds (0 ∷ []) → ⊥) × (AreReadable feeds (16 ∷ 0 ∷ []) → ⊥)
-not_readable =
-    (
-      λ h. let low : 1 < 1 = h.source_in 0 (record { source = 1; places = 0 ∷ 1 ∷ [] }) (omega arith) refl in omega (arith, low),
-      λ h. let low : 16 < 16 = h.place_in 1 (record { source = 0; places = 0 ∷ 1 ∷ 1 ∷ [] }) (omega arith) refl in omega (arith, low)
-    )
+not_readable = (
+  λ h. let low : 1 < 1 = h.source_in 0 (record { source = 1; places = 0 ∷ 1 ∷ [] }) (omega arith) refl in omega (arith, low),
+  λ h. let low : 16 < 16 = h.place_in 1 (record { source = 0; places = 0 ∷ 1 ∷ 1 ∷ [] }) (omega arith) refl in omega (arith, low),
+)
 
 -- Two viewpoints: left reads its x from b and its y from a, where 2 is carried to 1; right has the values of a in another order.
 
@@ -211,12 +207,11 @@ initial_below = (refl, refl, refl, refl)
 
 pub found : IsFound plant 6 (record { count = 2; states = 3 ∷ 5 ∷ [] }) × (IsFound plant 6 (record { count = 3; states = 3 ∷ 5 ∷ [] }) → ⊥) × (IsFound plant 6 (record { count = 2; states = 5 ∷ 3 ∷ [] }) → ⊥)
 unfolding initials_below
-found =
-    (
-      record { count_is = refl; listed = λ few. refl },
-      λ h. let same : 3 ≡ 2 = h.count_is in omega (arith, same),
-      λ h. let same : 5 ≡ 3 = ap (λ (states : List ℕ). slice_index states 0) (h.listed (omega arith)) in omega (arith, same)
-    )
+found = (
+  record { count_is = refl; listed = λ few. refl },
+  λ h. let same : 3 ≡ 2 = h.count_is in omega (arith, same),
+  λ h. let same : 5 ≡ 3 = ap (λ (states : List ℕ). slice_index states 0) (h.listed (omega arith)) in omega (arith, same),
+)
 
 -- the states 0 and 1 are not initial; of 3 and 4 one is
 zeros : (s : ℕ) → 0 ≤ s → s < 0 + 2 → is_merged_initial plant s ≡ false
@@ -245,23 +240,21 @@ front_of_one (suc k) low = omega (arith, low)
 
 pub misjudged : (IsJudgedFor plant 1 (1 ∷ 1 ∷ []) 0 Holds → ⊥) × (IsJudgedFor plant 0 (0 ∷ 0 ∷ []) 1 Fails → ⊥) × (AreJudged plant 1 (1 ∷ 1 ∷ []) 2 Holds → ⊥)
 unfolding initial_upto
-misjudged =
-    (
-      λ h. false≢true (h.right 2 (omega arith) (record { same = front_of_one })),
-      λ h. true≢false (h.right 2 (omega arith) (record { same = λ k low. omega (arith, low) })),
-      λ h. false≢true (h.right 2 (omega arith) (record { same = front_of_one }))
-    )
+misjudged = (
+  λ h. false≢true (h.right 2 (omega arith) (record { same = front_of_one })),
+  λ h. true≢false (h.right 2 (omega arith) (record { same = λ k low. omega (arith, low) })),
+  λ h. false≢true (h.right 2 (omega arith) (record { same = front_of_one })),
+)
 
 -- at the step from 3 to 0 right gives B, and for q at 4 it gives N
 pub digits_given : IsDigit plant (step_digit plan 3 0) 1 2 × IsDigit plant (prop_digit plan 1 4) 1 1 × (IsDigit plant (step_digit plan 3 0) 1 1 → ⊥) × (AreGiven plant (step_digit plan 3 0) 2 (0 ∷ 1 ∷ []) → ⊥)
 unfolding first_join
-digits_given =
-    (
-      record { value = refl; below = omega arith },
-      record { value = refl; below = omega arith },
-      λ h. let same : 1 ≡ 2 = h.value in omega (arith, same),
-      λ h. let same : 1 ≡ 2 = (h.given 1 (omega arith)).value in omega (arith, same)
-    )
+digits_given = (
+  record { value = refl; below = omega arith },
+  record { value = refl; below = omega arith },
+  λ h. let same : 1 ≡ 2 = h.value in omega (arith, same),
+  λ h. let same : 1 ≡ 2 = (h.given 1 (omega arith)).value in omega (arith, same),
+)
 
 -- What the tables of the two viewpoints hold.
 
@@ -295,13 +288,12 @@ not_fed h = false≢true (h.fed 0 (record { name = codes "z"; values = bits }) (
 
 pub tellings : IsTelling plan 0 left 0 (record { fixed = None; counts = true ∷ false ∷ true ∷ [] }) × IsTelling plan 0 left 1 (record { fixed = Some 1; counts = false ∷ false ∷ false ∷ [] })
     × IsTelling plan 1 right_one 0 (record { fixed = Some 2; counts = false ∷ false ∷ [] }) × IsTelling plan 1 right_one 1 (record { fixed = None; counts = true ∷ true ∷ [] })
-tellings =
-    (
-      record { told = refl; fixed_is = refl; counts_are = refl },
-      record { told = refl; fixed_is = refl; counts_are = refl },
-      record { told = refl; fixed_is = refl; counts_are = refl },
-      record { told = refl; fixed_is = refl; counts_are = refl }
-    )
+tellings = (
+  record { told = refl; fixed_is = refl; counts_are = refl },
+  record { told = refl; fixed_is = refl; counts_are = refl },
+  record { told = refl; fixed_is = refl; counts_are = refl },
+  record { told = refl; fixed_is = refl; counts_are = refl },
+)
 
 -- each weight is an element
 two_weights : (i : ℕ) → i < 2 → slice_index (1 ∷ 2 ∷ []) i < 3

@@ -1,13 +1,12 @@
 -- What viewpoints without faults have.
-use Rattle.std.proofs.Common.{◌≡◌, ℕ, zero, suc, ◌+◌, ◌<◌, ◌≤◌, ◌&&◌, not, ◌==◌, cond, Bool, true, false, List, [], ◌∷◌, ◌++◌, length, map, get_or, Option, Some, None, is_some, refl, sym, ◌∙◌, ap, subst, inl, inr, arith}
+use Rattle.std.proofs.Common.{◌≡◌, ℕ, zero, suc, ◌+◌, ◌<◌, ◌≤◌, ◌&&◌, not, ◌==◌, cond, Bool, true, false, List, [], ◌∷◌, ◌++◌, length, map, Option, Some, None, is_some, refl, sym, subst, inl, inr, arith}
 use Rattle.std.specs.List.{list_all, filter, find, flat_map, range_with_len}
 use Rattle.std.specs.Option.{is_none}
-use Rattle.std.proofs.lemmas.Bool.{and_from, and_parts, cases_eq, true≢false}
+use Rattle.std.proofs.lemmas.Bool.{and_from, and_parts, cases_eq}
 use Rattle.std.proofs.lemmas.Option.{none-some, same_Some}
 use Rattle.xc_base.specs.Names.{is_among, place_of, name_at}
 use Rattle.xc_base.proofs.Naming.{among_in_range}
 use Rattle.xc_expr.specs.declared.domain.Domain.{Domain}
-use Rattle.xc_view.specs.ViewFiles.{ViewValue, PropValue, CommandValue}
 use Rattle.xc_sigmap.specs.MapFiles.{MapValue}
 use Rattle.xc_sigmap.specs.declared.parts.Tell.{Tell}
 use Rattle.xc_sigmap.specs.declared.parts.Told.{Told}
@@ -16,9 +15,7 @@ use Rattle.xc_merge.specs.Merges.{Merge, Viewpoint, viewpoint_at, name_of}
 use Rattle.xc_merge.specs.MergedFrames.{line_of, stutter_words}
 use Rattle.xc_merge.specs.Pieces.{constant_told, fixed_by, fixed}
 use Rattle.xc_merge.specs.Faults.{missing, value_words, value_faults, send_faults, told_faults, tell_faults, stutter_faults, is_fed, variable_faults, prop_faults, viewpoint_faults, all_faults}
-use Rattle.xc_merge.specs.declared.fault.MergeFault.{MergeFault}
-use Rattle.xc_merge.specs.declared.fault.MergeFault.TheVariants.{UnknownValue, UnknownName, NotTotal}
-use Rattle.xc_machine.proofs.Joining.{passes}
+use Rattle.xc_merge.specs.declared.fault.MergeFault.TheVariants.{UnknownValue, NotTotal}
 
 -- what has no item
 both_nil : {X : Type 0} (xs ys : List X) → xs ++ ys ≡ [] → (xs ≡ []) × (ys ≡ [])

@@ -1,10 +1,9 @@
 -- The merged machine is a frame.
-use Rattle.std.proofs.Common.{◌≡◌, ℕ, zero, suc, ◌+◌, ◌<◌, ◌≤◌, true, List, [], ◌∷◌, length, map, get_or, Option, Some, None, refl, sym, ◌∙◌, ap, subst, arith}
-use Rattle.std.specs.List.{range_with_len}
+use Rattle.std.proofs.Common.{◌≡◌, ℕ, ◌<◌, true, List, [], ◌∷◌, length, map, Option, Some, None, refl, sym, ◌∙◌, subst, arith}
 use Rattle.std.proofs.lemmas.List.{length-map}
-use Rattle.std.proofs.lemmas.List.FromFn.{length-range_with_len, length-map-range_with_len, get_or-map-range_with_len}
-use Rattle.xc_theory.specs.Codes.{total, code_of, AreDigits}
-use Rattle.xc_theory.specs.Lattices.{LatticeData, IsLawful, size}
+use Rattle.std.proofs.lemmas.List.FromFn.{length-map-range_with_len, get_or-map-range_with_len}
+use Rattle.xc_theory.specs.Codes.{code_of}
+use Rattle.xc_theory.specs.Lattices.{size}
 use Rattle.xc_theory.proofs.Bounds.{join_of_lt}
 use Rattle.xc_theory.proofs.Codes.{codes_are_in_range}
 use Rattle.xc_alg.specs.Products.{product, sizes, AreLawful}
@@ -12,7 +11,6 @@ use Rattle.xc_base.specs.Names.{place_of}
 use Rattle.xc_lattice.specs.Values.{value_of as lattice_of}
 use Rattle.xc_lattice.specs.declared.lattice.Lattice.{Lattice}
 use Rattle.xc_view.specs.Parts.{is_sound}
-use Rattle.xc_view.specs.Views.{value_of as view_of}
 use Rattle.xc_view.specs.declared.view.View.{View}
 use Rattle.xc_sigmap.specs.Maps.{value_of as map_of}
 use Rattle.xc_sigmap.specs.MapFiles.{MapValue}
@@ -25,8 +23,7 @@ use Rattle.xc_merge.specs.Merges.{Merge, Viewpoint, viewpoint_at, for_each, part
 use Rattle.xc_merge.specs.Merging.{viewpoint_of, merge_in}
 use Rattle.xc_merge.specs.MergedFrames.{join_in, step_values, step_digit, digit_told, digit_by, prop_digit, line_of, merged_frame}
 use Rattle.xc_merge.specs.Pieces.{constant_told, fixed_by, fixed}
-use Rattle.xc_machine.specs.Tabled.{IsGood, AreTables}
-use Rattle.xc_machine.specs.declared.tables.Tables.{Tables}
+use Rattle.xc_machine.specs.Tabled.{IsGood}
 use Rattle.xc_machine.proofs.Giving.{digits_from, part_size}
 use Rattle.xc_machine.proofs.Merging.{viewpoint_is, viewpoint_count}
 use Rattle.xc_machine.proofs.Seeing.{item}

@@ -1,5 +1,5 @@
 -- What is judged of some known places is right wherever these are.
-use Rattle.std.proofs.Common.{◌≡◌, ℕ, ◌&&◌, ◌||◌, not, ◌==◌, Bool, true, false, List, slice_index, refl, sym, ◌∙◌, ap, subst}
+use Rattle.std.proofs.Common.{◌≡◌, ℕ, ◌&&◌, ◌||◌, not, ◌==◌, Bool, true, false, List, slice_index, refl, ◌∙◌, ap, subst}
 use Rattle.std.proofs.lemmas.Bool.{and_parts, and_from, and_left, and_right}
 use Rattle.xc_expr.specs.Tests as tests
 use Rattle.xc_expr.specs.Tests.{holds_at}

@@ -1,5 +1,5 @@
 -- Viewpoints and their tables.
-use Rattle.std.proofs.Common.{◌≡◌, ℕ, suc, ◌+◌, ◌<◌, ◌≤◌, true, false, nat_lt, eqb, List, [], ◌∷◌, ◌++◌, length, map, get_or, take, Option, Some, None, refl, sym, ◌∙◌, ap, subst, inl, inr, arith}
+use Rattle.std.proofs.Common.{◌≡◌, ℕ, ◌+◌, ◌<◌, ◌≤◌, false, eqb, List, [], ◌∷◌, ◌++◌, length, map, get_or, take, Some, None, refl, sym, ◌∙◌, ap, subst, inl, inr, arith}
 use Rattle.std.proofs.lemmas.Bool.{cases_eq, lt-ltb, le-ltb, ne_eqb}
 use Rattle.std.proofs.lemmas.List.{length_push, get_or_append_left, get_or_push, get_or_read, length-map, get_or-map, same_lists}
 use Rattle.xc_theory.specs.Codes.{total, digits, AreDigits}
@@ -24,8 +24,7 @@ use Rattle.xc_merge.specs.declared.fault.MergeFault.TheVariants.{Elements, NoIni
 use Rattle.xc_expr.specs.Tests.{holds_at}
 use Rattle.xc_view.specs.Views.{value_of as view_of}
 use Rattle.xc_expr.specs.declared.domain.Domain.{Domain}
-use Rattle.xc_machine.proofs.Joining.{digits_count}
-use Rattle.xc_machine.specs.Tabled.{AreTables, AreWeights, IsGood}
+use Rattle.xc_machine.specs.Tabled.{AreTables, AreWeights}
 use Rattle.xc_machine.specs.Gathering.{AreTabled, operations, names_in}
 use Rattle.xc_machine.specs.declared.tables.Tables.{Tables}
 use Rattle.xc_machine.specs.Descent.{IsFound}

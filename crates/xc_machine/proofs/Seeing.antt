@@ -1,17 +1,16 @@
 -- What tables see of places of the map's variables.
-use Rattle.std.proofs.Common.{◌≡◌, ℕ, zero, suc, ◌+◌, ◌<◌, ◌≤◌, Bool, true, false, List, [], ◌∷◌, ◌++◌, length, map, get_or, slice_index, take, refl, sym, ◌∙◌, ap, subst, arith}
+use Rattle.std.proofs.Common.{◌≡◌, ℕ, zero, suc, ◌+◌, ◌<◌, ◌≤◌, true, List, [], ◌∷◌, ◌++◌, length, map, get_or, slice_index, take, refl, sym, ◌∙◌, ap, subst, arith}
 use Rattle.std.proofs.Math.ListN.{set}
 use Rattle.std.specs.List.{list_all}
 use Rattle.std.proofs.lemmas.Bool.{and_parts, leb-true}
-use Rattle.std.proofs.lemmas.List.{take_more_set, take-set, map_more, take_all, length-map, get_or-map, get_or_read, ext_get_or}
-use Rattle.xc_theory.specs.Codes.{digits, code_of, total, AreDigits}
-use Rattle.xc_theory.proofs.Codes.{digits_are_in_range, digits_of_codes}
+use Rattle.std.proofs.lemmas.List.{take_more_set, map_more, take_all, length-map, get_or-map, get_or_read, ext_get_or}
+use Rattle.xc_theory.specs.Codes.{AreDigits}
 use Rattle.xc_expr.specs.Variables.{sizes_of, values_at, are_fit, is_domain}
 use Rattle.xc_expr.specs.declared.domain.Domain.{Domain}
 use Rattle.xc_expr.proofs.Moving.{digits_length, sizes_length}
 use Rattle.xc_sigmap.specs.MapFiles.{MapValue}
 use Rattle.xc_merge.specs.Merges.{Viewpoint}
-use Rattle.xc_merge.specs.Projections.{source, carried, place_seen, row_seen, row_of, states_of}
+use Rattle.xc_merge.specs.Projections.{source, place_seen, row_seen}
 use Rattle.xc_machine.specs.declared.tables.Feed.{Feed}
 use Rattle.xc_machine.specs.declared.tables.Tables.{Tables}
 use Rattle.xc_machine.specs.Seeing.{place_by, seen_by, AreReadable}

@@ -1,21 +1,21 @@
 -- What the joins of the code are in the merged machine.
-use Rattle.std.proofs.Common.{◌≡◌, ℕ, zero, suc, ◌+◌, ◌<◌, ◌≤◌, ◌&&◌, not, ◌==◌, eqb, cond, Bool, true, false, List, [], ◌∷◌, ◌++◌, length, map, get_or, slice_index, drop, Option, Some, None, is_some, refl, sym, ◌∙◌, ap, subst, inl, inr, arith}
-use Rattle.std.specs.List.{list_all, filter, range_with_len}
+use Rattle.std.proofs.Common.{◌≡◌, ℕ, suc, ◌<◌, ◌≤◌, ◌&&◌, not, ◌==◌, cond, Bool, true, false, List, [], ◌∷◌, ◌++◌, length, map, slice_index, Option, Some, None, is_some, refl, sym, ◌∙◌, ap, subst, arith}
+use Rattle.std.specs.List.{list_all, filter}
 use Rattle.std.specs.Str.{bytes_eq}
-use Rattle.std.proofs.lemmas.Bool.{and_parts, and_from, eqb-true, eq-eqb, cases_Bool, false_from_ne_true, true≢false}
+use Rattle.std.proofs.lemmas.Bool.{and_parts, eqb-true, eq-eqb, true≢false}
 use Rattle.std.proofs.lemmas.List.{map-append, append-nil}
 use Rattle.std.proofs.lemmas.Option.{none-some, same_Some}
 use Rattle.xc_theory.specs.Bounds.{join_of}
-use Rattle.xc_theory.specs.Codes.{digits, code_of, total, AreDigits}
-use Rattle.xc_theory.specs.Lattices.{LatticeData, IsLawful, size, bottom, join}
+use Rattle.xc_theory.specs.Codes.{digits, code_of, AreDigits}
+use Rattle.xc_theory.specs.Lattices.{LatticeData, IsLawful, size, join}
 use Rattle.xc_theory.proofs.Bounds.{join_of_lt}
-use Rattle.xc_theory.proofs.Codes.{digits_are_in_range, digits_of_codes}
+use Rattle.xc_theory.proofs.Codes.{digits_of_codes}
 use Rattle.xc_alg.specs.AnyTables.{lattice_in_any}
 use Rattle.xc_alg.specs.Operations.{Operations}
 use Rattle.xc_alg.specs.Products.{product}
 use Rattle.xc_alg.specs.Bounds.{joined, AreElements}
 use Rattle.xc_alg.proofs.Parts.{single, join_of-joined}
-use Rattle.xc_alg.proofs.Tables.{product_join, product_bottom, product_size}
+use Rattle.xc_alg.proofs.Tables.{product_join, product_bottom}
 use Rattle.xc_base.specs.Names.{is_among, place_of}
 use Rattle.xc_base.proofs.Naming.{among_in_range, same_bytes, bytes_refl}
 use Rattle.xc_expr.specs.Tests.{holds_at}
@@ -33,8 +33,8 @@ use Rattle.xc_sigmap.specs.declared.parts.Told.TheVariants.{Named, Constant}
 use Rattle.xc_lattice.specs.LatticeFiles.{LatticeValue}
 use Rattle.xc_merge.specs.Merges.{Viewpoint}
 use Rattle.xc_merge.specs.Projections.{row_of, row_seen, projection}
-use Rattle.xc_merge.specs.MergedFrames.{is_unseen, stutter_words, step_values, join_in, step_digit, line_of, digit_told, digit_by, prop_digit}
-use Rattle.xc_merge.specs.Pieces.{weight, mark, counts_for, counts_by, counts, constant_told, fixed_by, fixed, stutter}
+use Rattle.xc_merge.specs.MergedFrames.{is_unseen, stutter_words, join_in, step_digit, line_of, digit_told, digit_by, prop_digit}
+use Rattle.xc_merge.specs.Pieces.{weight, mark, counts_for, counts_by, constant_told, fixed_by}
 use Rattle.xc_machine.specs.Joins.{both, picked, joined_onto, joined_from, leads_to, holds_there}
 use Rattle.xc_machine.specs.declared.tables.Tables.{Tables}
 use Rattle.xc_machine.specs.declared.tables.Telling.{Telling}

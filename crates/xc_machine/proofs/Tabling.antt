@@ -1,20 +1,19 @@
 -- What is worked out of a viewpoint is what its tables are to hold.
 use Rattle.std.proofs.Common.{◌≡◌, ℕ, zero, suc, ◌+◌, ◌<◌, ◌≤◌, ◌==◌, not, cond, Bool, true, false, List, [], ◌∷◌, ◌++◌, length, map, get_or, slice_index, take, drop, Option, Some, None, is_some, refl, sym, ◌∙◌, ap, subst, inl, inr, arith}
 use Rattle.std.proofs.Math.ListN.{set}
-use Rattle.std.specs.List.{list_all, filter, range_with_len}
+use Rattle.std.specs.List.{list_all, filter}
 use Rattle.std.specs.Str.{bytes_eq}
-use Rattle.std.proofs.lemmas.Bool.{and_parts, cases_eq, true≢false, leb-true, ltb-true}
-use Rattle.std.proofs.lemmas.List.{length-take-le, length_push, get_or-take, get_or_append_left, get_or_push, get_or_read, get_or-set_same, get_or-set_other, length-map, drop_more, length-set}
+use Rattle.std.proofs.lemmas.Bool.{and_parts, cases_eq, true≢false, ltb-true}
+use Rattle.std.proofs.lemmas.List.{length-take-le, length_push, get_or-take, get_or_append_left, get_or_push, get_or_read, get_or-set_same, get_or-set_other, drop_more}
 use Rattle.std.proofs.lemmas.List.Sums.{prefix_len-le-length}
 use Rattle.xc_theory.proofs.Ranges.{all_range_at}
-use Rattle.xc_theory.specs.Lattices.{size}
 use Rattle.xc_alg.specs.Operations.{Operations}
 use Rattle.xc_alg.specs.Bounds.{joined, AreElements}
 use Rattle.xc_base.specs.Names.{is_among, place_of}
 use Rattle.xc_base.proofs.Naming.{among_in_range}
-use Rattle.xc_expr.specs.Variables.{values_at, are_fit}
+use Rattle.xc_expr.specs.Variables.{values_at}
 use Rattle.xc_expr.specs.declared.domain.Domain.{Domain}
-use Rattle.xc_view.specs.ViewFiles.{PropValue, CommandValue}
+use Rattle.xc_view.specs.ViewFiles.{PropValue}
 use Rattle.xc_view.specs.Parts.{prop_value, command_value}
 use Rattle.xc_view.specs.declared.lines.PropLine.{PropLine}
 use Rattle.xc_view.specs.declared.lines.Command.{Command}
@@ -32,9 +31,8 @@ use Rattle.xc_machine.specs.declared.tables.Feed.{Feed}
 use Rattle.xc_machine.specs.declared.tables.Telling.{Telling}
 use Rattle.xc_machine.specs.Elements.{command_code, line_code, counts_of, stutters_from}
 use Rattle.std.proofs.Math.Seq.{drop-length}
-use Rattle.xc_machine.specs.Tabled.{IsFeed, AreFeeds, AreFed, IsTelling, AreTellings, AreWeights}
+use Rattle.xc_machine.specs.Tabled.{IsFeed, AreFeeds, IsTelling, AreTellings, AreWeights}
 use Rattle.xc_machine.proofs.Faultless.{found_passes}
-use Rattle.xc_machine.proofs.Joining.{passes}
 use Rattle.xc_machine.proofs.Seeing.{values_few}
 use Rattle.xc_machine.proofs.Sound.{map_parts}
 use Rattle.xc_machine.proofs.Stepping.{map_map, known_are}

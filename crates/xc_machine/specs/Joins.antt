@@ -1,5 +1,5 @@
 -- Joins of the elements of commands and lines, as the code comes to them. No public clause rests on these words.
-use Rattle.std.specs.Prelude.{ℕ, ◌+◌, Bool, ◌&&◌, if◌then◌else◌, List, [], ◌∷◌, drop}
+use Rattle.std.specs.Prelude.{ℕ, Bool, ◌&&◌, if◌then◌else◌, List, [], ◌∷◌, drop}
 use Rattle.xc_alg.specs.Operations.{Operations}
 use Rattle.xc_expr.specs.Tests.{test_of, is_in_range, holds_at}
 use Rattle.xc_expr.specs.Actions.{allows, is_action_in_range}

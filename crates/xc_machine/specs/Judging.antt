@@ -1,5 +1,5 @@
 -- What a guard says where some of the places are known.
-use Rattle.std.specs.Prelude.{◌≡◌, ◌<◌, ℕ, Bool, true, false, ◌&&◌, ◌==◌, not, if◌then◌else◌, List, length, slice_index}
+use Rattle.std.specs.Prelude.{◌≡◌, ℕ, Bool, true, false, ◌&&◌, ◌==◌, not, if◌then◌else◌, List, slice_index}
 use Rattle.std.specs.List.{slice_index_or}
 use Rattle.xc_expr.specs.Tests as tests
 use Rattle.xc_machine.specs.declared.judgement.Judgement.{Judgement}

@@ -1,5 +1,5 @@
 -- The parts of viewpoints by their places.
-use Rattle.std.specs.Prelude.{ℕ, List, []}
+use Rattle.std.specs.Prelude.{ℕ, []}
 use Rattle.std.specs.List.{slice_index_or}
 use Rattle.xc_expr.specs.Tests as tests
 use Rattle.xc_expr.specs.declared.domain.Domain.{Domain}

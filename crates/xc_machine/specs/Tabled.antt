@@ -1,5 +1,5 @@
 -- What the tables of a viewpoint hold. Public clauses rest on `IsGood` alone among these words.
-use Rattle.std.specs.Prelude.{◌≡◌, ◌<◌, ◌≤◌, ℕ, true, false, List, ◌∷◌, [], length, map, slice_index, Some}
+use Rattle.std.specs.Prelude.{◌≡◌, ◌<◌, ◌≤◌, ℕ, true, false, List, length, map, slice_index, Some}
 use Rattle.std.specs.List.{slice_index_or, list_all}
 use Rattle.std.specs.Option.{is_some}
 use Rattle.xc_theory.specs.Lattices.{IsLawful, size, bottom}
@@ -8,7 +8,7 @@ use Rattle.xc_alg.specs.AnyTables.{lattice_in_any}
 use Rattle.xc_base.specs.Names.{is_among, has_twice}
 use Rattle.xc_expr.specs.Variables.{values_at}
 use Rattle.xc_expr.specs.declared.domain.Domain.{Domain}
-use Rattle.xc_view.specs.ViewFiles.{PropValue, CommandValue}
+use Rattle.xc_view.specs.ViewFiles.{PropValue}
 use Rattle.xc_sigmap.specs.MapFiles.{MapValue}
 use Rattle.xc_merge.specs.Merges.{Viewpoint}
 use Rattle.xc_merge.specs.Projections.{source, carried}

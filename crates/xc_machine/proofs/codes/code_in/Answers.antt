@@ -1,11 +1,10 @@
-use Rattle.std.proofs.Common.{◌≡◌, ◌+◌, ◌*◌, ◌<◌, ◌≤◌, ℕ, get_or, drop, length, ap, sym, ◌∙◌, refl, arith}
+use Rattle.std.proofs.Common.{◌+◌, ◌*◌, ◌<◌, ℕ, get_or, drop, ap, ◌∙◌, refl, arith}
 use Rattle.xc_theory.specs.Codes.{total, code_of}
 use Rattle.xc_theory.proofs.Codes.{codes_are_in_range}
 use Rattle.xc_expr.specs.Variables.{sizes_of}
 use Rattle.xc_expr.proofs.Moving.{sizes_length}
 use Rattle.xc_machine.proofs.Coding.{code_turn, code_small, code_begins, code_ends}
 use Rattle.xc_machine.proofs.Joining.{digits_count}
-use Rattle.xc_machine.proofs.Seeing.{item}
 use Rattle.xc_machine.proofs.Sound.{size_at, states_few, rest_positive, value_few}
 use Rattle.xc_machine.proofs.codes.code_in.Goals as goal
 

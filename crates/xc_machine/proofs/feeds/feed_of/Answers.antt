@@ -1,7 +1,7 @@
 use Rattle.std.proofs.Common.{sym, ◌∙◌, ap}
 use Rattle.std.specs.Option.{option_copied}
 use Rattle.xc_sigmap.specs.Maps.{value_of as map_of}
-use Rattle.xc_machine.proofs.Tabling.{line_in, feed_some, feed_none}
+use Rattle.xc_machine.proofs.Tabling.{line_in, feed_some}
 use Rattle.xc_machine.proofs.feeds.feed_of.Goals as goal
 
 pub carried_places-requires-clause-from : goal.carried_places-requires-clause-from

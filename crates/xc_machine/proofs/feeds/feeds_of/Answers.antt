@@ -1,4 +1,4 @@
-use Rattle.std.proofs.Common.{subst, sym, arith}
+use Rattle.std.proofs.Common.{arith}
 use Rattle.xc_sigmap.specs.Maps.{value_of as map_of}
 use Rattle.xc_machine.proofs.Tabling.{feeds_more}
 use Rattle.xc_machine.proofs.feeds.feeds_of.Goals as goal

@@ -1,4 +1,4 @@
-use Rattle.std.proofs.Common.{◌≡◌, length, take}
+use Rattle.std.proofs.Common.{take}
 use Rattle.xc_sigmap.specs.Maps.{value_of as map_of}
 use Rattle.xc_machine.specs.Tabled.{AreFeeds}
 use Rattle.xc_machine.proofs.feeds.feeds_of.Given as goal

@@ -1,11 +1,11 @@
-use Rattle.std.proofs.Common.{◌≡◌, ℕ, [], length, ap, sym, subst, ◌∙◌, arith}
+use Rattle.std.proofs.Common.{◌≡◌, ℕ, [], length, subst, arith}
 use Rattle.xc_sigmap.specs.Maps.{value_of as map_of}
 use Rattle.xc_merge.specs.Faults.{viewpoint_faults}
 use Rattle.xc_merge.specs.Merges.{Viewpoint}
 use Rattle.xc_merge.specs.Merging.{merge_in}
 use Rattle.xc_machine.specs.Gathering.{AreTabled}
 use Rattle.xc_machine.proofs.Faultless.{none_of_one}
-use Rattle.xc_machine.proofs.Merging.{viewpoint_is, viewpoint_count, tabled_more, none_tabled}
+use Rattle.xc_machine.proofs.Merging.{viewpoint_is, viewpoint_count, tabled_more}
 use Rattle.xc_machine.proofs.gathering.tables_of.Goals as goal
 
 pub tabulate-requires : goal.tabulate-requires

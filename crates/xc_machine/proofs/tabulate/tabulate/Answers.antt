@@ -1,9 +1,8 @@
-use Rattle.std.proofs.Common.{◌≡◌, ℕ, ◌<◌, ◌≤◌, true, List, [], ◌∷◌, ◌++◌, length, map, get_or, ap, sym, subst, ◌∙◌, refl, arith}
+use Rattle.std.proofs.Common.{ℕ, ◌<◌, ◌≤◌, List, [], ◌∷◌, length, map, ap, sym, subst, ◌∙◌, arith}
 use Rattle.std.specs.List.{list_all}
-use Rattle.std.proofs.lemmas.List.{length-map}
 use Rattle.xc_theory.specs.Lattices.{LatticeData, size, bottom}
 use Rattle.xc_theory.proofs.Bounds.{join_of_lt}
-use Rattle.xc_alg.specs.Bounds.{joined, AreElements}
+use Rattle.xc_alg.specs.Bounds.{joined}
 use Rattle.xc_alg.specs.Products.{product}
 use Rattle.xc_alg.proofs.Tables.{product_size, product_bottom}
 use Rattle.xc_base.specs.Names.{is_among, place_of}
@@ -22,7 +21,7 @@ use Rattle.xc_machine.proofs.Faultless.{faultless, fixed_within}
 use Rattle.xc_machine.proofs.Joining.{passes}
 use Rattle.xc_machine.proofs.Seeing.{values_few}
 use Rattle.xc_machine.proofs.Sound.{sound_parts}
-use Rattle.xc_machine.proofs.Stepping.{stutter_is_joined, known_are}
+use Rattle.xc_machine.proofs.Stepping.{stutter_is_joined}
 use Rattle.xc_machine.proofs.Tabling.{weights_are, marks_are, codes_of_words, all_left, all_right, stutters_all}
 use Rattle.xc_machine.proofs.tabulate.tabulate.Goals as goal
 

@@ -4,7 +4,6 @@ use Rattle.xc_view.specs.Views.{value_of as view_of}
 use Rattle.xc_view.specs.Parts.{prop_value}
 use Rattle.std.specs.Option.{option_copied}
 use Rattle.xc_sigmap.specs.Maps.{value_of as map_of}
-use Rattle.xc_machine.specs.Elements.{counts_of}
 use Rattle.xc_machine.proofs.Tabling.{telling_some}
 use Rattle.xc_machine.proofs.tellings.telling_of.Goals as goal
 

@@ -1,4 +1,4 @@
-use Rattle.std.proofs.Common.{◌≡◌, ℕ, List, length, take, ap, ◌∙◌}
+use Rattle.std.proofs.Common.{ℕ, List, take, ap, ◌∙◌}
 use Rattle.xc_theory.specs.Codes.{code_of}
 use Rattle.xc_theory.specs.Lattices.{LatticeData}
 use Rattle.xc_alg.specs.Products.{sizes}

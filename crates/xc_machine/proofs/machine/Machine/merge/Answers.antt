@@ -1,4 +1,4 @@
-use Rattle.std.proofs.Common.{◌≡◌, ◌≤◌, ℕ, length, Some, ap, sym, ◌∙◌, arith}
+use Rattle.std.proofs.Common.{◌≤◌, ℕ, length, Some, ap, sym, ◌∙◌, arith}
 use Rattle.xc_merge.specs.declared.fault.MergeFault.TheVariants.{Initial}
 use Rattle.xc_machine.specs.Gathered.{merged_of}
 use Rattle.xc_machine.proofs.Descending.{found_count, found_states}

@@ -1,13 +1,8 @@
-use Rattle.std.proofs.Common.{◌≡◌, ℕ, ◌<◌, ◌≤◌, length, get_or, ap, sym, subst, ◌∙◌, arith}
-use Rattle.std.proofs.lemmas.List.{length-map}
-use Rattle.xc_expr.specs.Variables.{values_at}
+use Rattle.std.proofs.Common.{ℕ, get_or, ap, ◌∙◌, arith}
 use Rattle.xc_sigmap.specs.Maps.{value_of as map_of}
 use Rattle.xc_merge.specs.Merges.{viewpoint_at}
-use Rattle.xc_merge.specs.Pieces.{weight, mark, fixed}
 use Rattle.xc_machine.specs.Machines.{merge_of}
-use Rattle.xc_machine.proofs.Encoding.{tables_at, feed_at, weight_at, weight_below, mark_at, mark_below, count_at, counts-length, fixed_below, good_at, tables_count}
-use Rattle.xc_machine.proofs.Seeing.{values_few}
-use Rattle.xc_machine.proofs.Sound.{map_parts}
+use Rattle.xc_machine.proofs.Encoding.{tables_at, good_at, tables_count}
 use Rattle.xc_machine.proofs.Merging.{viewpoint_count}
 use Rattle.xc_machine.proofs.Stepping.{stutter_within}
 use Rattle.xc_machine.proofs.machine.Machine.stutter.Goals as goal

@@ -1,4 +1,4 @@
-use Rattle.std.proofs.Common.{◌≡◌, ◌+◌, ◌/◌, ◌<◌, ◌≤◌, ℕ, Bool, true, false, List, length, get_or, take, drop, refl, ap, sym, subst, ◌∙◌, arith}
+use Rattle.std.proofs.Common.{◌/◌, ℕ, true, false, List, length, get_or, take, ap, subst, ◌∙◌, arith}
 use Rattle.xc_expr.specs.Variables.{sizes_of}
 use Rattle.xc_expr.specs.declared.domain.Domain.{Domain}
 use Rattle.xc_expr.proofs.Moving.{sizes_length}

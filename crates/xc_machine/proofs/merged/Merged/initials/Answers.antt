@@ -1,5 +1,4 @@
 use Rattle.std.proofs.Common.{refl, arith}
-use Rattle.xc_sigmap.specs.Maps.{value_of as map_of}
 use Rattle.xc_machine.specs.Gathered.{merged_of}
 use Rattle.xc_machine.proofs.Descending.{found_none, found_more, found_below}
 use Rattle.xc_machine.proofs.merged.Merged.initials.Goals as goal

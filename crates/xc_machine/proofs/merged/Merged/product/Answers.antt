@@ -1,12 +1,10 @@
-use Rattle.std.proofs.Common.{◌≡◌, ◌≤◌, List, length, map, ap, sym, subst, ◌∙◌, arith}
+use Rattle.std.proofs.Common.{◌≤◌, List, length, map, ap, subst, ◌∙◌, arith}
 use Rattle.std.proofs.lemmas.List.{length-map}
 use Rattle.xc_theory.specs.Codes.{total}
 use Rattle.xc_theory.specs.Lattices.{LatticeData}
 use Rattle.xc_alg.specs.AnyTables.{lattice_in_any}
 use Rattle.xc_alg.specs.Products.{sizes}
 use Rattle.xc_sigmap.specs.Maps.{value_of as map_of}
-use Rattle.xc_merge.specs.Merges.{Viewpoint}
-use Rattle.xc_merge.specs.Merging.{viewpoint_of}
 use Rattle.xc_machine.specs.Gathered.{merged_of}
 use Rattle.xc_machine.specs.Gathering.{operations}
 use Rattle.xc_machine.proofs.Merging.{operations_are, too_large}

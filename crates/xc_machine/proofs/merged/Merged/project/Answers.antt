@@ -1,5 +1,5 @@
-use Rattle.std.proofs.Common.{◌≡◌, ◌<◌, ℕ, List, take, ap, sym, subst, ◌∙◌}
-use Rattle.xc_theory.specs.Codes.{total, code_of}
+use Rattle.std.proofs.Common.{List, take, ap, sym, ◌∙◌}
+use Rattle.xc_theory.specs.Codes.{code_of}
 use Rattle.xc_expr.specs.Variables.{sizes_of}
 use Rattle.xc_expr.specs.declared.domain.Domain.{Domain}
 use Rattle.xc_sigmap.specs.Maps.{value_of as map_of}

@@ -1,7 +1,7 @@
-use Rattle.std.proofs.Common.{◌≡◌, length, take, ap, sym, subst, refl, ◌∙◌, arith}
+use Rattle.std.proofs.Common.{length, refl, ◌∙◌, arith}
 use Rattle.std.proofs.lemmas.List.{length-set}
 use Rattle.xc_sigmap.specs.Maps.{value_of as map_of}
-use Rattle.xc_merge.specs.MergedFrames.{step_digit, prop_digit}
+use Rattle.xc_merge.specs.MergedFrames.{prop_digit}
 use Rattle.xc_machine.specs.Gathered.{merged_of}
 use Rattle.xc_machine.proofs.Giving.{given_more, none_given, given_values, given_digits}
 use Rattle.xc_machine.proofs.Merging.{row_read, viewpoint_count}

@@ -1,19 +1,13 @@
-use Rattle.std.proofs.Common.{◌≡◌, ℕ, true, List, [], ◌∷◌, length, map, take, ap, sym, subst, refl, ◌∙◌, arith}
+use Rattle.std.proofs.Common.{ℕ, List, [], ◌∷◌, length, map, take, ap, sym, refl, ◌∙◌, arith}
 use Rattle.std.proofs.lemmas.List.{length-map}
-use Rattle.xc_expr.specs.Tests.{Test, holds_at, is_in_range}
 use Rattle.xc_expr.specs.declared.domain.Domain.{Domain}
-use Rattle.xc_lattice.specs.Values.{value_of as lattice_of}
 use Rattle.xc_sigmap.specs.Maps.{value_of as map_of}
-use Rattle.xc_view.specs.Parts.{prop_value, command_value}
+use Rattle.xc_view.specs.Parts.{command_value}
 use Rattle.xc_view.specs.Views.{value_of as view_of}
-use Rattle.xc_merge.specs.Merges.{Viewpoint}
 use Rattle.xc_merge.specs.Merging.{viewpoint_of}
-use Rattle.xc_merge.specs.MergedFrames.{is_initial_for, step_digit, prop_digit}
-use Rattle.xc_machine.proofs.Merging.{viewpoint_is, state_digits, seen_row, seen_length, seen_count, seen_places, digits_pair, initial_for_is, operations_size, weights_sized}
-use Rattle.xc_machine.proofs.Sound.{sound_parts, guards_in, actions_in, tests_in}
-use Rattle.std.specs.List.{range_with_len}
-use Rattle.xc_theory.specs.Codes.{AreDigits}
-use Rattle.xc_theory.specs.Lattices.{LatticeData, size}
+use Rattle.xc_merge.specs.MergedFrames.{step_digit}
+use Rattle.xc_machine.proofs.Merging.{viewpoint_is, state_digits, seen_row, seen_count, seen_places, digits_pair, operations_size, weights_sized}
+use Rattle.xc_machine.proofs.Sound.{sound_parts, guards_in, actions_in}
 use Rattle.xc_theory.proofs.Codes.{digits_are_in_range}
 use Rattle.xc_alg.specs.AnyTables.{lattice_in_any}
 use Rattle.xc_alg.specs.Products.{product}
