@@ -234,16 +234,12 @@ pub fronts : SharesFront 1 (1 ∷ 0 ∷ []) (1 ∷ 1 ∷ []) × (SharesFront 2 (
 fronts = (record { same = one_front }, λ h. let same : 0 ≡ 1 = h.same 1 (omega arith) in omega (arith, same))
 
 -- Where a is 1, right is initial and left need not be. Where nothing is known, none fails.
-front_of_one : (k : ℕ) → k < 1 → slice_index (1 ∷ 0 ∷ []) k ≡ slice_index (1 ∷ 1 ∷ []) k
-front_of_one zero low = refl
-front_of_one (suc k) low = omega (arith, low)
-
 pub misjudged : (IsJudgedFor plant 1 (1 ∷ 1 ∷ []) 0 Holds → ⊥) × (IsJudgedFor plant 0 (0 ∷ 0 ∷ []) 1 Fails → ⊥) × (AreJudged plant 1 (1 ∷ 1 ∷ []) 2 Holds → ⊥)
 unfolding initial_upto
 misjudged = (
-  λ h. false≢true (h.right 2 (omega arith) (record { same = front_of_one })),
+  λ h. false≢true (h.right 2 (omega arith) (record { same = one_front })),
   λ h. true≢false (h.right 2 (omega arith) (record { same = λ k low. omega (arith, low) })),
-  λ h. false≢true (h.right 2 (omega arith) (record { same = front_of_one })),
+  λ h. false≢true (h.right 2 (omega arith) (record { same = one_front })),
 )
 
 -- at the step from 3 to 0 right gives B, and for q at 4 it gives N
