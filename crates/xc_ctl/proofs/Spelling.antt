@@ -1,5 +1,5 @@
--- The printed tokens of a formula are that formula, as it is written. Each operator has one prefix or one pair of brackets around it at
--- most, so that prefixes and brackets stand no deeper than twice the number of nodes.
+-- The printed tokens of a formula are that formula, as it is written. Prefixes and brackets stand around each other no deeper than twice
+-- the number of its nodes.
 use Rattle.std.proofs.Common.{◌≡◌, ℕ, zero, suc, ◌*◌, ◌<◌, ◌≤◌, Bool, true, false, ◌||◌, ◌==◌, if◌then◌else◌, List, [], ◌∷◌, ◌++◌, length, codes, refl, arith}
 use Rattle.std.specs.List.{list_all}
 use Rattle.std.proofs.lemmas.Bool.{and_parts}
