@@ -1,24 +1,22 @@
 -- An action that can be written is read from its print, and an action that is read can be written.
-use Rattle.std.proofs.Common.{◌≡◌, ℕ, ◌<◌, ◌&&◌, ◌||◌, not, ◌==◌, nat_lt, Bool, true, false, List, [], ◌∷◌, map, length, Option, Some, None, refl, sym, ◌∙◌, ap, subst, arith}
+use Rattle.std.proofs.Common.{◌≡◌, ℕ, ◌<◌, not, ◌==◌, Bool, true, false, List, [], ◌∷◌, map, length, Some, refl, sym, ◌∙◌, ap, subst, arith}
 use Rattle.std.specs.List.{list_all, list_any}
 use Rattle.std.specs.Option.{option_map}
 use Rattle.std.specs.Str.{bytes_eq}
 use Rattle.std.proofs.lemmas.Bool.{and_parts, and_from, or_parts, or_from, not-true, eq-eqb, ltb-true, both_ways}
-use Rattle.std.proofs.lemmas.Option.{none-some, same_Some}
-use Rattle.xc_base.specs.Names.{is_among, has_twice, name_at}
+use Rattle.std.proofs.lemmas.Option.{same_Some}
+use Rattle.xc_base.specs.Names.{is_among}
 use Rattle.xc_base.proofs.Naming.{same_bytes, same_place}
 use Rattle.xc_expr.proofs.ActionSpelling.{actions_are_unique}
 use Rattle.xc_expr.proofs.Choices.{then_some_is, both_is, map_is}
 use Rattle.xc_expr.proofs.KnownNames.{names_length}
 use Rattle.xc_expr.proofs.NamedPlaces.{variable_back, peer_back, operand_back, value_there, peers_there, names_differ, variable_known, peer_known, value_operand, peer_operand}
-use Rattle.xc_expr.specs.Actions.{assigned, assigns, is_assign_in_range, assigns_twice, is_action_in_range}
+use Rattle.xc_expr.specs.Actions.{assigned, assigns, is_assign_in_range, assigns_twice}
 use Rattle.xc_expr.specs.Laws.{PrintedActionsAreRead, ReadActionsAreWritable, AssignsAreUnique, ActionsKeepTheirTokens}
-use Rattle.xc_expr.specs.Outcomes.{AreAssigns}
-use Rattle.xc_expr.specs.Printing.{variable_name, value_name, named_assignment, named_action}
-use Rattle.xc_expr.specs.Resolving.{then_some, both, variable, value, peer, operand, resolved_assignment, resolved_action, set_name, sets_twice}
-use Rattle.xc_expr.specs.Tests.{has_value, are_peers}
+use Rattle.xc_expr.specs.Printing.{variable_name, named_assignment, named_action}
+use Rattle.xc_expr.specs.Resolving.{then_some, variable, value, peer, operand, resolved_assignment, resolved_action, set_name, sets_twice}
 use Rattle.xc_expr.specs.Variables.{names_of, are_fit}
-use Rattle.xc_expr.specs.Writable.{is_no_value, is_clear_assignment, is_writable_action}
+use Rattle.xc_expr.specs.Writable.{is_clear_assignment}
 use Rattle.xc_expr.specs.Written.{Assigned, To, Next, Prev, Any, has_names, action_tokens}
 use Rattle.xc_expr.specs.declared.assign.Assign.{Assign}
 use Rattle.xc_expr.specs.declared.assign.Assign.TheVariants as variants

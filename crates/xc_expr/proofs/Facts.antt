@@ -146,16 +146,18 @@ named_alike = record { name = x; values = o ∷ y ∷ [] } ∷ record { name = y
 pub taken_for_values : (is_writable_guard named_alike (tests.Same 0 1) ≡ false) × (is_writable_guard named_alike (tests.Not (tests.Differ 1 1)) ≡ false)
     × (is_writable_guard named_alike (tests.Same 1 0) ≡ true) × (is_writable_guard named_alike (tests.And (tests.Is 0 1) (tests.Differ 0 0)) ≡ true)
     × (is_writable_action named_alike (assigns.Copy 0 1 ∷ []) ≡ false) × (is_writable_action named_alike (assigns.Next 0 1 ∷ assigns.Prev 1 1 ∷ []) ≡ true)
+    × (is_writable_guard named_alike (tests.And (tests.Same 0 1) tests.True) ≡ false) × (is_writable_guard named_alike (tests.Or tests.True (tests.Differ 0 1)) ≡ false)
     × (is_writable_action named_alike (assigns.Copy 1 0 ∷ assigns.Any 0 ∷ []) ≡ true)
-taken_for_values = (refl, refl, refl, refl, refl, refl, refl)
+taken_for_values = (refl, refl, refl, refl, refl, refl, refl, refl, refl)
 
 -- neither can names that are reserved: `any` is no value and no variable, and `true` is a value only
 abbrev reserved : List Domain
 reserved = record { name = codes "true"; values = codes "any" ∷ codes "true" ∷ [] } ∷ record { name = x; values = codes "any" ∷ codes "true" ∷ [] } ∷ []
 
 pub not_reserved : (is_writable_guard reserved (tests.Is 1 0) ≡ false) × (is_writable_guard reserved (tests.Is 1 1) ≡ true) × (is_writable_guard reserved (tests.Is 0 1) ≡ false)
+    × (is_writable_guard reserved (tests.Not (tests.IsNot 1 0)) ≡ false) × (is_writable_guard reserved (tests.And tests.True (tests.Is 1 0)) ≡ false) × (is_writable_guard reserved (tests.Or (tests.Is 1 0) tests.True) ≡ false)
     × (is_writable_action reserved (assigns.Value 1 0 ∷ []) ≡ false) × (is_writable_action reserved (assigns.Value 1 1 ∷ []) ≡ true) × (is_writable_action reserved (assigns.Any 0 ∷ []) ≡ false)
-not_reserved = (refl, refl, refl, refl, refl, refl)
+not_reserved = (refl, refl, refl, refl, refl, refl, refl, refl, refl)
 
 -- a test with so many `!` before it
 abbrev negations : ℕ → tests.Test

@@ -1,8 +1,8 @@
 -- A guard that can be written is read from its print, and a guard that is read can be written.
-use Rattle.std.proofs.Common.{◌≡◌, ℕ, ◌&&◌, true, nat_le, List, Option, Some, None, refl, sym, ◌∙◌, ap, subst}
+use Rattle.std.proofs.Common.{◌≡◌, ℕ, ◌&&◌, true, nat_le, List, Some, refl, sym, ◌∙◌, ap, subst}
 use Rattle.std.specs.Option.{option_map}
 use Rattle.std.proofs.lemmas.Bool.{and_parts, and_from, le-leb, leb-true}
-use Rattle.std.proofs.lemmas.Option.{none-some, same_Some}
+use Rattle.std.proofs.lemmas.Option.{same_Some}
 use Rattle.xc_expr.proofs.Choices.{then_some_is, both_is, map_is}
 use Rattle.xc_expr.proofs.GuardReading.{guard_unique}
 use Rattle.xc_expr.proofs.GuardPrints.{spelled_deep, spelled_names, printed_sum}
@@ -10,9 +10,8 @@ use Rattle.xc_expr.proofs.NamedPlaces.{variable_back, operand_back, value_there,
 use Rattle.xc_expr.proofs.ShortPrints.{spelled_longer}
 use Rattle.xc_expr.specs.Laws.{PrintedGuardsAreRead, ReadGuardsAreWritable, TestsAreUnique, NoPrintIsLonger}
 use Rattle.xc_expr.specs.LineParts.{IsNoLonger}
-use Rattle.xc_expr.specs.Outcomes.{IsTest}
 use Rattle.xc_expr.specs.Printing.{variable_name, value_name, named_guard, guard_tokens}
-use Rattle.xc_expr.specs.Resolving.{then_some, both, variable, value, peer, operand, resolved}
+use Rattle.xc_expr.specs.Resolving.{then_some, variable, value, peer, operand, resolved}
 use Rattle.xc_expr.specs.Tests.{Test, has_value, are_peers, is_in_range}
 use Rattle.xc_expr.specs.Tests as tests
 use Rattle.xc_expr.specs.Variables.{are_fit}

@@ -1,15 +1,15 @@
 -- The tokens of guards and actions can stand in lines, and those of a print are no longer than what was read.
-use Rattle.std.proofs.Common.{◌≡◌, ℕ, suc, ◌+◌, ◌≤◌, ◌==◌, ◌&&◌, ◌||◌, not, Bool, true, false, if◌then◌else◌, List, [], ◌∷◌, ◌++◌, length, length-append, append_assoc, append-nil, codes, refl, sym, ◌∙◌, ap, subst, inl, inr, arith}
+use Rattle.std.proofs.Common.{◌≡◌, ℕ, ◌==◌, ◌&&◌, ◌||◌, not, Bool, true, false, List, [], ◌∷◌, ◌++◌, append_assoc, codes, refl, ◌∙◌, ap, subst, inl, inr, arith}
 use Rattle.std.specs.List.{list_all}
 use Rattle.std.proofs.lemmas.Bool.{and_parts, and_from, or_cases, or_left, or_right, not-true, ne_eqb, both_ways}
 use Rattle.std.proofs.lemmas.List.Folds.{list_all-append}
-use Rattle.xc_base.specs.Canonical.{spaced, is_symbol, is_token, run_together, are_apart}
+use Rattle.xc_base.specs.Canonical.{is_symbol, is_token, run_together, are_apart}
 use Rattle.xc_base.specs.Text.{joins, joins_next}
 use Rattle.xc_base.specs.Words.{is_word_byte, is_word, is_name}
 use Rattle.xc_expr.specs.Laws.{GuardsAreLineParts, ActionsAreLineParts}
-use Rattle.xc_expr.specs.LineParts.{IsLinePart, IsNoLonger}
-use Rattle.xc_expr.specs.Printing.{is_and, is_or, is_joined, bracketed, guard_tokens}
-use Rattle.xc_expr.specs.Writable.{has_fit_names, depth_of}
+use Rattle.xc_expr.specs.LineParts.{IsLinePart}
+use Rattle.xc_expr.specs.Printing.{guard_tokens}
+use Rattle.xc_expr.specs.Writable.{depth_of}
 use Rattle.xc_expr.specs.Written.{Written, Level, Sum, Product, Basic, IsSpelled, is_variable_name, is_value_name, Assigned, To, Next, Prev, Any, assignment_tokens, action_tokens, has_names}
 use Rattle.xc_expr.specs.Written.IsSpelled.{truth, falsity, equal, unequal, negated, enclosed, factor, and, summand, or}
 use Rattle.xc_expr.proofs.GuardPrints.{printed_sum}

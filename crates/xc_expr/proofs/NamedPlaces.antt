@@ -1,16 +1,15 @@
 -- Places as names, and names as places again.
-use Rattle.std.proofs.Common.{◌≡◌, ℕ, ◌<◌, ◌&&◌, not, Bool, true, false, nat_lt, if◌then◌else◌, List, [], length, Option, Some, None, refl, sym, ◌∙◌, ap, subst, arith}
+use Rattle.std.proofs.Common.{◌≡◌, ℕ, ◌<◌, ◌&&◌, Bool, true, false, nat_lt, if◌then◌else◌, List, [], length, Option, Some, None, refl, ◌∙◌, ap, subst, arith}
 use Rattle.std.specs.List.{list_all, position}
 use Rattle.std.specs.Str.{bytes_eq}
 use Rattle.std.proofs.lemmas.Bool.{and_parts, both_ways, not-true, not_from_false, lt-ltb, ltb-true}
 use Rattle.std.proofs.lemmas.List.Sums.{AllPass-from_list_all}
 use Rattle.std.proofs.lemmas.Option.{none-some, same_Some}
-use Rattle.xc_theory.specs.Codes.{total}
 use Rattle.xc_base.specs.Names.{are_same, is_among, has_twice, name_at, place_of}
 use Rattle.xc_base.proofs.Naming.{among_at, among_in_range, place_of-name_at, found_in_range}
 use Rattle.xc_expr.proofs.Choices.{then_some_is, if_is}
 use Rattle.xc_expr.proofs.KnownNames.{names_length, found_at}
-use Rattle.xc_expr.specs.Variables.{names_of, values_at, sizes_of, state_limit, is_domain, are_fit}
+use Rattle.xc_expr.specs.Variables.{names_of, values_at, is_domain, are_fit}
 use Rattle.xc_expr.specs.Tests.{has_value, are_peers}
 use Rattle.xc_expr.specs.Resolving.{variable, value, peer, or_peer, operand}
 use Rattle.xc_expr.specs.Printing.{variable_name, value_name}

@@ -1,5 +1,5 @@
 -- A line gets no longer where a guard stands in it as it is printed.
-use Rattle.std.proofs.Common.{◌≡◌, ℕ, suc, ◌+◌, ◌≤◌, ◌<◌, Bool, true, false, ◌&&◌, ◌||◌, if◌then◌else◌, List, [], ◌∷◌, ◌++◌, length, length-append, append_assoc, append-nil, codes, refl, sym, ◌∙◌, ap, subst, arith}
+use Rattle.std.proofs.Common.{◌≡◌, ℕ, ◌+◌, ◌≤◌, Bool, true, false, ◌&&◌, ◌||◌, if◌then◌else◌, List, [], ◌∷◌, ◌++◌, length, length-append, append_assoc, append-nil, codes, refl, sym, ◌∙◌, ap, subst, arith}
 use Rattle.xc_base.specs.Canonical.{spaced}
 use Rattle.xc_base.specs.Words.{is_word}
 use Rattle.xc_expr.specs.LineParts.{IsNoLonger}

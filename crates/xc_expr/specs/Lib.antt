@@ -13,6 +13,7 @@ pub mod Printing
 pub mod PrintSteps
 pub mod Writable
 pub mod LineParts
+pub mod PrintedTexts
 pub mod ActionOutcomes
 pub mod Outcomes
 pub mod Laws

@@ -10,6 +10,8 @@ ghost use Rattle.xc_expr.specs.Actions.{is_assign_in_range, is_action_in_range};
 ghost use Rattle.xc_expr.specs.Written.{assignment_tokens, action_tokens};
 ghost use Rattle.xc_expr.specs.Printing.{variable_name, value_name, named_guard, named_assignment, named_action, is_or, is_joined, bracketed, guard_tokens, AreMarked};
 ghost use Rattle.xc_expr.specs.PrintSteps.{only_if, tokens_behind};
+ghost use Rattle.xc_expr.specs.PrintedTexts.{IsTextOfTest, IsTextOfAssigns};
+ghost use Rattle.xc_expr.specs.Writable.{is_writable_guard, is_writable_action};
 
 use crate::assign::{Action, Assign};
 use crate::domain::Vars;
@@ -180,11 +182,13 @@ pub fn push_guard<'v>(
     tokens.extend(more.as_slice())
 }
 
-/// The canonical text of a guard, with no line end.
+/// The canonical text of a guard, with no line end. It is read again as the guard, where that can be written.
+#[tactic(auto, using(std::proofs::lemmas::Grind::common_steps, crate::proofs::PrintedTexts::guard_text))]
 pub fn print_guard(alloc: Global, guard: &Guard, vars: &Vars) -> Result<Bytes, Memory>
     requires fit { are_fit vars.now ≡ true }
     requires range { is_in_range vars.now (test_of guard.now) ≡ true }
-    ensures { IfOk result (λ text. text ≡ spaced (guard_tokens (named_guard vars.now (test_of guard.now)))) }
+    ensures text { IfOk result (λ text. text ≡ spaced (guard_tokens (named_guard vars.now (test_of guard.now)))) }
+    ensures again { is_writable_guard vars.now (test_of guard.now) ≡ true → IfOk result (IsTextOfTest vars.now (test_of guard.now)) }
 {
     let tokens = lexemes_of_guard(alloc, guard, vars)?;
     spaced(alloc, tokens.as_slice())
@@ -290,11 +294,14 @@ pub fn push_action<'v>(
     tokens.extend(more.as_slice())
 }
 
-/// The canonical text of an action, with no line end. With no assignments it is `skip`.
+/// The canonical text of an action, with no line end: `skip` where there are no assignments. It is read again as the action,
+/// where that can be written.
+#[tactic(auto, using(std::proofs::lemmas::Grind::common_steps, crate::proofs::PrintedTexts::action_text))]
 pub fn print_action(alloc: Global, action: &Action, vars: &Vars) -> Result<Bytes, Memory>
     requires fit { are_fit vars.now ≡ true }
     requires range { is_action_in_range vars.now action.now ≡ true }
-    ensures { IfOk result (λ text. text ≡ spaced (action_tokens (named_action vars.now action.now))) }
+    ensures text { IfOk result (λ text. text ≡ spaced (action_tokens (named_action vars.now action.now))) }
+    ensures again { is_writable_action vars.now action.now ≡ true → IfOk result (IsTextOfAssigns vars.now action.now) }
 {
     let tokens = lexemes_of_action(alloc, action, vars)?;
     spaced(alloc, tokens.as_slice())
