@@ -1,12 +1,12 @@
 -- What a line carries, value after value, and which propositions a viewpoint tells, one after another.
-use Rattle.std.proofs.Common.{◌≡◌, ℕ, suc, ◌+◌, ◌-◌, ◌<◌, ◌≤◌, Bool, true, false, cond, ◌&&◌, nat_lt, List, [], ◌∷◌, ◌++◌, length, Option, Some, refl, sym, ◌∙◌, ap, subst, arith}
+use Rattle.std.proofs.Common.{◌≡◌, ℕ, suc, ◌+◌, ◌-◌, ◌<◌, ◌≤◌, Bool, true, false, cond, ◌&&◌, List, [], ◌∷◌, ◌++◌, length, Option, Some, refl, sym, ◌∙◌, ap, subst, arith}
 use Rattle.std.proofs.lemmas.Bool.{and_parts, ltb-true}
 use Rattle.std.specs.List.{list_all, find, flat_map, range_with_len}
 use Rattle.xc_base.specs.Names.{is_among}
 use Rattle.xc_expr.specs.Variables.{values_at}
 use Rattle.xc_expr.specs.declared.domain.Domain.{Domain}
 use Rattle.xc_sigmap.specs.MapFiles.{MapValue}
-use Rattle.xc_sigmap.specs.Sound.{is_sound, are_declared, are_told, is_send_in, has_two, same_send}
+use Rattle.xc_sigmap.specs.Sound.{is_sound, is_send_in}
 use Rattle.xc_sigmap.specs.declared.parts.SendLine.{SendLine}
 use Rattle.xc_merge.specs.Projections.{sends, line_for, carried_word}
 use Rattle.xc_merge.specs.Faults.{carries_all, IsFirstOf}

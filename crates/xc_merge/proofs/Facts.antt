@@ -1,5 +1,5 @@
 -- Merged machines at small cases whose values are known from outside: a wrong definition does not check here.
-use Rattle.std.proofs.Common.{◌≡◌, ℕ, Bool, true, false, List, [], ◌∷◌, map, Some, None, codes, refl}
+use Rattle.std.proofs.Common.{◌≡◌, ℕ, true, false, List, [], ◌∷◌, map, Some, None, codes, refl}
 use Rattle.xc_theory.specs.Bounds.{first_join}
 use Rattle.xc_theory.proofs.Facts.{two, chain, diamond}
 use Rattle.xc_lattice.specs.LatticeFiles.{LatticeValue}
@@ -18,7 +18,7 @@ use Rattle.xc_sigmap.specs.declared.parts.SendLine.{SendLine}
 use Rattle.xc_sigmap.specs.declared.parts.Told.TheVariants.{Named, Constant}
 use Rattle.xc_ctl.specs.Frames.{Frame}
 use Rattle.xc_merge.specs.Merges.{Merge, Viewpoint, nobody, viewpoint_at, name_of, for_each, parts_of, names_of_parts}
-use Rattle.xc_merge.specs.Merging.{viewpoint_of, merge_in}
+use Rattle.xc_merge.specs.Merging.{merge_in}
 use Rattle.xc_merge.specs.Projections.{states_of, row_of, line_for, pair_for, carried_word, carried_place, source, carried, place_seen, row_seen, projection}
 use Rattle.xc_merge.specs.MergedFrames.{is_unseen, stutter_words, step_values, join_in, step_digit, line_of, prop_digit, merged_frame, is_merged_initial, initials_of}
 use Rattle.xc_merge.specs.Pieces.{weight, mark, counts, fixed, stutter}

@@ -1,5 +1,5 @@
 -- Why viewpoints do not merge, at small cases whose answers are known from outside: a wrong definition does not check here.
-use Rattle.std.proofs.Common.{◌≡◌, ℕ, Bool, true, false, List, [], ◌∷◌, ◌++◌, map, replicate, Option, Some, None, codes, refl, ap}
+use Rattle.std.proofs.Common.{◌≡◌, ℕ, Bool, true, false, List, [], ◌∷◌, ◌++◌, replicate, Option, Some, None, codes, refl, ap}
 use Rattle.std.proofs.lemmas.Bool.{false≢true}
 use Rattle.xc_expr.specs.Tests as tests
 use Rattle.xc_expr.specs.declared.domain.Domain.{Domain}

@@ -1,9 +1,9 @@
 -- The faults of a viewpoint, part after part.
-use Rattle.std.proofs.Common.{◌≡◌, ℕ, zero, suc, ◌+◌, ◌-◌, ◌<◌, ◌≤◌, ◌==◌, Bool, true, false, cond, not, List, [], ◌∷◌, ◌++◌, map, length, get_or, Option, Some, None, Result, Ok, Err, IfErr, refl, sym, ◌∙◌, ap, subst, arith, append_assoc}
+use Rattle.std.proofs.Common.{◌≡◌, ℕ, zero, suc, ◌+◌, ◌-◌, ◌<◌, ◌≤◌, ◌==◌, List, [], ◌∷◌, ◌++◌, map, length, get_or, Option, Some, None, Result, Ok, Err, IfErr, refl, sym, ◌∙◌, ap, subst, arith, append_assoc}
 use Rattle.std.specs.List.{filter, find, flat_map, range_with_len}
 use Rattle.std.specs.Option.{is_none}
 use Rattle.std.specs.Result.{IsErrAnd}
-use Rattle.xc_base.specs.Names.{is_among, name_at}
+use Rattle.xc_base.specs.Names.{name_at}
 use Rattle.xc_expr.specs.declared.domain.Domain.{Domain}
 use Rattle.xc_expr.specs.Called.{is_called}
 use Rattle.xc_view.specs.ViewFiles.{PropValue, CommandValue, ViewValue}
@@ -21,9 +21,9 @@ use Rattle.xc_view.specs.declared.view.View.{View}
 use Rattle.xc_sigmap.specs.declared.sigmap.SigMap.{SigMap}
 use Rattle.xc_merge.specs.Merges.{Merge, Viewpoint, viewpoint_at, name_of}
 use Rattle.xc_merge.specs.Merging.{viewpoint_of, merge_in}
-use Rattle.xc_merge.specs.MergedFrames.{line_of, stutter_words}
+use Rattle.xc_merge.specs.MergedFrames.{line_of}
 use Rattle.xc_merge.specs.Faults.{IsFirstOf, missing, told_faults, unknown_in_line, is_fed, value_faults, send_faults, tell_faults, stutter_faults, variable_faults, prop_faults, viewpoint_faults, all_faults}
-use Rattle.xc_merge.specs.Finding.{Finds, value_fault, name_fault, prop_values, command_values, pair_names, sent_by, sent, told_by, told, stuttered_by, stuttered, unfed_by, unfed, untold_by, untold, faults_from, named_faults, told_or_stuttered_faults, total_faults}
+use Rattle.xc_merge.specs.Finding.{Finds, value_fault, name_fault, prop_values, command_values, pair_names, sent, told, stuttered, unfed, untold, faults_from, named_faults, told_or_stuttered_faults, total_faults}
 use Rattle.xc_merge.specs.declared.fault.MergeFault.{MergeFault}
 use Rattle.xc_merge.specs.declared.fault.MergeFault.TheVariants.{UnknownValue, UnknownName, NotTotal}
 use Rattle.xc_merge.proofs.Steps.{first_in_front, err_is}

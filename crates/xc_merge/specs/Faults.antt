@@ -13,7 +13,6 @@ use Rattle.xc_sigmap.specs.MapFiles.{MapValue}
 use Rattle.xc_sigmap.specs.declared.parts.Carry.{Carry}
 use Rattle.xc_sigmap.specs.declared.parts.SendLine.{SendLine}
 use Rattle.xc_sigmap.specs.declared.parts.Tell.{Tell}
-use Rattle.xc_sigmap.specs.declared.parts.Stutter.{Stutter}
 use Rattle.xc_sigmap.specs.declared.parts.Told.{Told}
 use Rattle.xc_sigmap.specs.declared.parts.Told.TheVariants.{Named, Constant}
 use Rattle.xc_merge.specs.Merges.{Merge, Viewpoint, viewpoint_at, name_of, parts_of}

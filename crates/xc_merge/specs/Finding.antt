@@ -1,5 +1,5 @@
 -- The faults of a viewpoint, as the code comes to them. No public clause rests on these words.
-use Rattle.std.specs.Prelude.{◌≡◌, ℕ, Bool, ◌-◌, if◌then◌else◌, ◌==◌, length, List, [], ◌∷◌, ◌++◌, map, Option, Some, None, Result, Ok, Err}
+use Rattle.std.specs.Prelude.{◌≡◌, ℕ, Bool, ◌-◌, if◌then◌else◌, ◌==◌, length, List, [], ◌∷◌, ◌++◌, map, Result, Ok, Err}
 use Rattle.std.specs.List.{flat_map, list_all, range_with_len}
 use Rattle.std.specs.Option.{is_none}
 use Rattle.xc_base.specs.Names.{is_among, name_at}
@@ -13,7 +13,7 @@ use Rattle.xc_sigmap.specs.declared.parts.Carry.{Carry}
 use Rattle.xc_sigmap.specs.declared.parts.SendLine.{SendLine}
 use Rattle.xc_sigmap.specs.declared.parts.Stutter.{Stutter}
 use Rattle.xc_sigmap.specs.declared.parts.Tell.{Tell}
-use Rattle.xc_merge.specs.Merges.{Merge, Viewpoint, viewpoint_at, name_of}
+use Rattle.xc_merge.specs.Merges.{Merge, Viewpoint, viewpoint_at}
 use Rattle.xc_merge.specs.Projections.{carried_word}
 use Rattle.xc_merge.specs.MergedFrames.{line_of}
 use Rattle.xc_merge.specs.Faults.{IsFirstOf, unknown_in_line, told_faults, is_fed, value_faults, send_faults, tell_faults, stutter_faults, variable_faults, prop_faults, viewpoint_faults}

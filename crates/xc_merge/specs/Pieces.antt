@@ -1,5 +1,5 @@
 -- What an encoder reads of a merge, viewpoint by viewpoint.
-use Rattle.std.specs.Prelude.{ℕ, Bool, false, List, Option, Some, None}
+use Rattle.std.specs.Prelude.{ℕ, Bool, false, Option, Some, None}
 use Rattle.std.specs.Str.{bytes_eq}
 use Rattle.xc_base.specs.Names.{place_of}
 use Rattle.xc_view.specs.ViewFiles.{PropValue, CommandValue}

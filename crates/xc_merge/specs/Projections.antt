@@ -1,5 +1,5 @@
 -- What a viewpoint sees of a state of the merged machine.
-use Rattle.std.specs.Prelude.{ℕ, Bool, ◌&&◌, ◌==◌, List, [], map, find, slice_index, Option, Some, None, unwrap_or, option_map}
+use Rattle.std.specs.Prelude.{ℕ, Bool, ◌&&◌, ◌==◌, List, map, find, slice_index, Option, Some, None, unwrap_or, option_map}
 use Rattle.std.specs.Str.{bytes_eq}
 use Rattle.xc_theory.specs.Codes.{total, digits, code_of}
 use Rattle.xc_base.specs.Names.{name_at, place_of}

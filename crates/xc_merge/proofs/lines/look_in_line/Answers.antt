@@ -1,7 +1,5 @@
 use Rattle.std.proofs.Common.{◌∙◌, refl}
 use Rattle.xc_view.specs.Views.{value_of as view_of}
-use Rattle.xc_merge.specs.Faults.{first_of}
-use Rattle.xc_merge.specs.declared.fault.MergeFault.{MergeFault}
 use Rattle.xc_merge.proofs.Gathering.{line_known, line_unknown}
 use Rattle.xc_merge.proofs.lines.look_in_line.Goals as goal
 
