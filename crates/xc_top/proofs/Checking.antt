@@ -3,7 +3,7 @@ use Rattle.std.proofs.Common.{◌≡◌, ℕ, zero, suc, ◌+◌, ◌<◌, ◌�
 use Rattle.std.specs.String.{string_bytes}
 use Rattle.std.proofs.lemmas.Bool.{lt-ltb}
 use Rattle.xc_base.specs.Formats.{Row, IsAccepted}
-use Rattle.xc_base.specs.Shelves.{Shelved, IsLoaded}
+use Rattle.xc_base.specs.Shelves.{Shelved}
 use Rattle.xc_base.specs.declared.shelf.File.{File}
 use Rattle.xc_ctl.specs.FormulaFiles.{formula_format}
 use Rattle.xc_ctl.specs.declared.kind.Kind.{Kind}
@@ -15,15 +15,13 @@ use Rattle.xc_view.specs.declared.view.View.{View}
 use Rattle.xc_lattice.specs.declared.lattice.Lattice.{Lattice}
 use Rattle.std.proofs.lemmas.List.{map-append}
 use Rattle.xc_merge.specs.Projections.{states_of}
-use Rattle.xc_merge.specs.Faults.{merge_fault, IsRefusal}
+use Rattle.xc_merge.specs.Faults.{merge_fault}
 use Rattle.xc_merge.specs.declared.fault.MergeFault.{MergeFault}
-use Rattle.xc_merge.specs.declared.fault.MergeFault.TheVariants.{UnknownValue, UnknownName, NotTotal, Elements, NoInitial, Initial}
-use Rattle.xc_merge.specs.declared.fault.MergeFault.TheVariants as faults
 use Rattle.xc_top.specs.Texts.{states_line, merge_line}
 use Rattle.xc_top.specs.Checks.{signature_of, state_limit}
-use Rattle.xc_top.specs.Outcomes.{Outcome, Refusal, Event, Ends, file_limit, Cuts, Opens, Merges, Reports, Evaluates, states_excess, FormulaTasks, MergeTasks, LoadsViewpoint, LoadsViewpoints, files_of}
+use Rattle.xc_top.specs.Outcomes.{Outcome, Refusal, Event, Ends, Cuts, Merges, Reports, Evaluates, states_excess, FormulaTasks, LoadsViewpoint, LoadsViewpoints, files_of}
 use Rattle.xc_top.specs.Outcomes.ReadsFormulas.{faulty as formulas_faulty, accepted as formulas_accepted}
-use Rattle.xc_top.specs.Working.{ComesTo, Comes, CountsOn, IsCut, IsCutHalt, IsHalted, IsLoadHalt, IsMergeLine, IsMergeRefusal, IsPrepared, IsRefusalHalt, IsFaultRefusal, IsViewpoint, Stops, nothing, outcome_of}
+use Rattle.xc_top.specs.Working.{ComesTo, Comes, CountsOn, IsCut, IsCutHalt, IsHalted, IsMergeRefusal, IsPrepared, IsRefusalHalt, IsFaultRefusal, IsViewpoint, Stops, nothing, outcome_of}
 use Rattle.xc_top.specs.declared.answer.Answer.{Answer}
 use Rattle.xc_top.specs.declared.halt.Halt.{Halt}
 use Rattle.xc_top.specs.declared.halt.Halt.TheVariants.{Words, Refused, ReadFault, WriteFault, Memory}

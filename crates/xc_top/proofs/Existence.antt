@@ -1,5 +1,5 @@
 -- A request has an outcome over all files.
-use Rattle.std.proofs.Common.{◌≡◌, ℕ, ◌+◌, [], ◌∷◌, ◌++◌, length-append, List, map, Option, Some, None, MatchOption, length, refl, sym, subst, Bool, true, slice_index, arith, inl, inr, ◌⊎◌}
+use Rattle.std.proofs.Common.{◌≡◌, ℕ, ◌+◌, [], ◌∷◌, ◌++◌, length-append, List, Option, Some, None, MatchOption, length, refl, sym, subst, arith, inl, inr, ◌⊎◌}
 use Rattle.xc_base.specs.Formats.{Row, IsAccepted, IsFirstFault}
 use Rattle.xc_base.specs.Lines.{text_rows}
 use Rattle.xc_base.specs.Text.{text_fault}
@@ -7,7 +7,7 @@ use Rattle.xc_base.specs.Shelves.{held}
 use Rattle.xc_base.specs.declared.shelf.File.{File}
 use Rattle.xc_base.specs.declared.fault.TextFault.{TextFault}
 use Rattle.xc_base.specs.declared.fault.FileFault.{FileFault}
-use Rattle.xc_lattice.specs.LatticeFiles.{LatticeValue, Verdict, Faulty, Unlawful, Lawful, IsVerdict, IsLattice}
+use Rattle.xc_lattice.specs.LatticeFiles.{LatticeValue, Verdict, Faulty, Unlawful, Lawful, IsVerdict}
 use Rattle.xc_lattice.proofs.Existence.{each_has_verdict}
 use Rattle.xc_top.specs.Laws.{RequestsHaveOutcomes, OutcomesAreUnique}
 use Rattle.xc_top.proofs.Outcomes.{course_once}

@@ -1,14 +1,13 @@
 -- Requests, texts and what a check evaluates at small cases whose values are known from outside: a wrong definition does not check here.
 use Rattle.std.specs.Fmt.{decimal}
-use Rattle.std.proofs.Common.{◌≡◌, ℕ, Bool, true, false, List, [], ◌∷◌, ◌++◌, Some, None, codes, refl}
+use Rattle.std.proofs.Common.{◌≡◌, ℕ, List, [], ◌∷◌, ◌++◌, Some, None, codes, refl}
 use Rattle.xc_theory.specs.Bounds.{first_meet, first_join}
 use Rattle.xc_theory.proofs.Facts.{two, chain}
 use Rattle.xc_expr.specs.Tests as tests
 use Rattle.xc_lattice.specs.LatticeFiles.{LatticeValue}
 use Rattle.xc_lattice.specs.declared.law.Law.TheVariants.{Distributive, Antisymmetry}
 use Rattle.xc_view.specs.ViewFiles.{ViewValue}
-use Rattle.xc_sigmap.specs.MapFiles.{MapValue}
-use Rattle.xc_merge.specs.Merges.{Merge, Viewpoint}
+use Rattle.xc_merge.specs.Merges.{Merge}
 use Rattle.xc_merge.specs.MergedFrames.{initials_of}
 use Rattle.xc_merge.specs.declared.fault.MergeFault.TheVariants.{UnknownValue, UnknownName, NotTotal, Elements, NoInitial, Initial}
 use Rattle.xc_alg.specs.Products.{product}

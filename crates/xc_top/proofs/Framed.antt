@@ -1,5 +1,5 @@
 -- What is merged without a fault is a frame, and formulas over it can be read.
-use Rattle.std.proofs.Common.{◌≡◌, ℕ, zero, suc, ◌+◌, ◌*◌, ◌<◌, ◌≤◌, Bool, true, false, not, ◌&&◌, ◌==◌, nat_lt, nat_le, cond, List, [], ◌∷◌, ◌++◌, length, map, Option, Some, None, refl, sym, ◌∙◌, ap, subst, append-nil, append_assoc, arith}
+use Rattle.std.proofs.Common.{◌≡◌, ℕ, suc, ◌+◌, ◌*◌, ◌<◌, ◌≤◌, Bool, true, false, not, ◌==◌, nat_lt, cond, List, [], ◌∷◌, ◌++◌, length, map, Option, Some, None, refl, sym, ap, subst, append-nil, append_assoc, arith}
 use Rattle.std.specs.List.{list_all, range_with_len, slice_index_or}
 use Rattle.std.proofs.lemmas.List.{length-map}
 use Rattle.std.proofs.lemmas.Nat.{mul-le}
@@ -14,7 +14,6 @@ use Rattle.xc_alg.proofs.Products.{product_laws}
 use Rattle.xc_base.specs.Formats.{Row, IsAccepted, AreStatements}
 use Rattle.xc_base.specs.Formats.AreStatements.{none, next}
 use Rattle.xc_base.specs.Names.{has_twice, place_of}
-use Rattle.xc_lattice.specs.LatticeFiles.{LatticeValue}
 use Rattle.xc_sigmap.specs.MapFiles.{MapValue, map_format}
 use Rattle.xc_sigmap.specs.Sound.{is_sound, are_declared, are_told}
 use Rattle.xc_sigmap.specs.declared.statement.Statement.{Statement}
@@ -28,11 +27,11 @@ use Rattle.xc_expr.specs.Variables.{are_fit}
 use Rattle.xc_merge.specs.Merges.{Merge, Viewpoint, nobody, viewpoint_at, for_each, parts_of, names_of_parts}
 use Rattle.xc_merge.specs.MergedFrames.{merged_frame, initials_of, step_digit, prop_digit, digit_by, digit_told, line_of}
 use Rattle.xc_merge.specs.Pieces.{fixed_by, constant_told}
-use Rattle.xc_merge.specs.Faults.{merge_fault, first_of, all_faults, limit_fault, element_limit, initial_fault, viewpoint_faults}
+use Rattle.xc_merge.specs.Faults.{merge_fault, first_of, all_faults, limit_fault, initial_fault}
 use Rattle.xc_merge.specs.declared.fault.MergeFault.{MergeFault}
 use Rattle.xc_merge.specs.declared.fault.MergeFault.TheVariants.{Elements}
 use Rattle.xc_machine.proofs.Faultless.{faultless, none_of_one, fixed_within}
-use Rattle.xc_ctl.specs.Frames.{Frame, IsFrame}
+use Rattle.xc_ctl.specs.Frames.{IsFrame}
 use Rattle.xc_ctl.specs.Trees.{is_fit, is_part, sizes_of}
 use Rattle.xc_top.specs.Checks.{signature_of}
 use Rattle.xc_top.proofs.Lattices.{IsNamed, AreNamed, named_at, parts_are_lawful, names_as_many}

@@ -1,10 +1,10 @@
 -- The lattices of files: their laws, their heights and their sizes.
-use Rattle.std.proofs.Common.{◌≡◌, ℕ, zero, suc, ◌+◌, ◌<◌, ◌≤◌, Bool, true, false, List, [], ◌∷◌, ◌++◌, length, map, slice_index, refl, ap, arith}
+use Rattle.std.proofs.Common.{◌≡◌, ℕ, zero, suc, ◌<◌, ◌≤◌, Bool, false, List, [], ◌∷◌, ◌++◌, length, map, slice_index, refl, ap, arith}
 use Rattle.std.specs.List.{range_with_len, slice_index_or}
 use Rattle.std.proofs.lemmas.List.FromFn.{get_or-map-range_with_len}
 use Rattle.xc_theory.specs.Orders.{IsAntisymmetric}
 use Rattle.xc_theory.specs.Codes.{total}
-use Rattle.xc_theory.specs.Lattices.{LatticeData, size, IsLawful}
+use Rattle.xc_theory.specs.Lattices.{size, IsLawful}
 use Rattle.xc_theory.specs.Chains.{IsHeight}
 use Rattle.xc_alg.specs.Products.{product, sizes, AreLawful}
 use Rattle.xc_base.specs.Formats.{Row}
@@ -12,7 +12,7 @@ use Rattle.xc_base.specs.Names.{has_twice}
 use Rattle.xc_order.specs.Order.{IsOrder}
 use Rattle.xc_order.specs.Heights.{steps_up, greatest_level}
 use Rattle.xc_order.proofs.Heights.{IsHeight-from_levels}
-use Rattle.xc_lattice.specs.LatticeFiles.{LatticeValue, Lawful, IsLattice, IsVerdict}
+use Rattle.xc_lattice.specs.LatticeFiles.{LatticeValue, Lawful, IsVerdict}
 use Rattle.xc_lattice.specs.Drafts.{IsReady}
 use Rattle.xc_lattice.proofs.Drafts.{IsDraft-from_whole}
 use Rattle.xc_lattice.proofs.Said.{IsReady-from_Says}

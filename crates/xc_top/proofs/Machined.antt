@@ -1,5 +1,5 @@
 -- What the merged machine of the code has, in the words of these proofs.
-use Rattle.std.proofs.Common.{◌≡◌, ℕ, suc, ◌<◌, ◌≤◌, true, List, [], ◌∷◌, ◌++◌, length, map, get_or, sum, Result, Ok, Err, IfOk, sym, ◌∙◌, ap, subst, arith}
+use Rattle.std.proofs.Common.{◌≡◌, ℕ, suc, ◌<◌, ◌≤◌, true, List, [], ◌∷◌, ◌++◌, length, get_or, sum, Result, Ok, Err, IfOk, sym, ◌∙◌, ap, subst, arith}
 use Rattle.std.specs.List.{list_all}
 use Rattle.std.proofs.lemmas.List.{length-map}
 use Rattle.xc_theory.specs.Codes.{total}
@@ -19,7 +19,7 @@ use Rattle.xc_top.specs.Checks.{map_text, blocks_text}
 use Rattle.xc_top.specs.Outcomes.{Served, Reports}
 use Rattle.xc_top.specs.Saying.{AddsBlocks}
 use Rattle.xc_top.specs.declared.status.Status.TheVariants.{Done}
-use Rattle.xc_top.proofs.Lattices.{IsNamed, AreNamed, some_heights}
+use Rattle.xc_top.proofs.Lattices.{AreNamed, some_heights}
 
 -- its lattices are lawful and small, with different names
 all_named : (found : List Viewpoint) → ((v : ℕ) → v < length found → IsFit (get_or found v nobody).lattice) → AreNamed found

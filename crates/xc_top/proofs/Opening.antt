@@ -1,7 +1,6 @@
 -- What comes of a file that is loaded, cut and read.
-use Rattle.std.proofs.Common.{◌≡◌, ℕ, ◌≤◌, List, Option, Some, None, Result, Ok, Err, IfOk, IfErr, refl, sym, subst, ap, arith, ◌∙◌}
-use Rattle.std.specs.String.{string_bytes}
-use Rattle.xc_base.specs.Formats.{Row, IsAccepted, IsFirstFault}
+use Rattle.std.proofs.Common.{◌≡◌, ℕ, List, Option, Result, Ok, Err, IfOk, IfErr, refl, subst, ap, arith}
+use Rattle.xc_base.specs.Formats.{Row, IsAccepted}
 use Rattle.xc_base.specs.Shelves.{Told, Shelved, IsLoaded}
 use Rattle.xc_base.specs.declared.shelf.File.{File}
 use Rattle.xc_base.specs.declared.fault.FileFault.{FileFault}
@@ -15,11 +14,11 @@ use Rattle.xc_top.specs.Outcomes.{Refusal, Event, Ends, file_limit, Cuts, Opens,
 use Rattle.xc_top.specs.Outcomes.ReadsMap.{faulty as map_faulty, accepted as map_accepted}
 use Rattle.xc_top.specs.Outcomes.ReadsView.{faulty as view_faulty, accepted as view_accepted}
 use Rattle.xc_top.specs.Headline.{TellsSame}
-use Rattle.xc_top.specs.Working.{nothing, Comes, CountsOn, IsCut, IsCutHalt, IsFile, IsHalted, IsFaultRefusal, IsLatticeRefusal, IsLawfulFile, IsLoadHalt, IsRefusalHalt, IsRefusedVerdict, IsPrepared, IsRead, IsViewpoint, LeavesShelf, Stops}
+use Rattle.xc_top.specs.Working.{nothing, CountsOn, IsCut, IsFile, IsHalted, IsFaultRefusal, IsLatticeRefusal, IsLawfulFile, IsRefusalHalt, IsRefusedVerdict, IsPrepared, IsRead, IsViewpoint, LeavesShelf, Stops}
 use Rattle.xc_top.specs.declared.answer.Answer.{Answer}
 use Rattle.xc_top.specs.declared.halt.Halt.{Halt}
 use Rattle.xc_top.specs.declared.halt.Halt.TheVariants.{Words, Refused, ReadFault, WriteFault, Memory}
-use Rattle.xc_top.proofs.Courses.{Course, prepared_by, from_before, cut_stops, cut_goes_on, cut_comes_to, load_halted, load_goes_on, load_comes_to, opens_by, refused_comes}
+use Rattle.xc_top.proofs.Courses.{Course, prepared_by, cut_goes_on, cut_comes_to, load_goes_on, load_comes_to, opens_by, refused_comes}
 
 -- a file that was read, and work that goes on behind it
 pub file_goes_on : {X : Type 0} (P : List Row → X → Type 0) (name : List ℕ) (next : List Row → Course) (Q : Course) (x : X) (before shelf shelf_after : Shelved) (result : Result Answer Halt) → ((rows : List Row) → P rows x → (m : ℕ → List File) (e : Event) → Q m e → next rows m e)

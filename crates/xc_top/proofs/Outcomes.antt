@@ -1,12 +1,11 @@
 -- Words have one outcome at most over given files.
-use Rattle.std.proofs.Common.{◌≡◌, true, ℕ, ◌+◌, arith, refl, length, length-append, [], ◌∷◌, ◌++◌, List, Option, Some, None, MatchOption, sym, ap, ◌∙◌, subst, inl, inr}
+use Rattle.std.proofs.Common.{◌≡◌, ℕ, ◌+◌, arith, refl, length, length-append, [], ◌∷◌, ◌++◌, List, Option, Some, None, MatchOption, sym, ap, ◌∙◌, subst, inl, inr}
 use Rattle.xc_base.specs.Formats.{Row}
 use Rattle.xc_base.specs.Lines.{text_rows}
 use Rattle.xc_base.specs.Text.{text_fault}
 use Rattle.xc_base.specs.Shelves.{held}
 use Rattle.xc_base.specs.declared.shelf.File.{File}
 use Rattle.xc_base.specs.declared.fault.TextFault.{TextFault}
-use Rattle.xc_base.specs.declared.fault.FileFault.{FileFault}
 use Rattle.xc_theory.proofs.Chains.{heights_are_unique}
 use Rattle.xc_lattice.proofs.Verdicts.{verdicts_are_unique}
 use Rattle.xc_lattice.specs.LatticeFiles.{LatticeValue, Verdict, Faulty, Unlawful, Lawful}

@@ -1,5 +1,5 @@
 -- There is one text of the values of formulas, and one at most.
-use Rattle.std.proofs.Common.{◌≡◌, ℕ, zero, suc, ◌+◌, ◌-◌, ◌<◌, ◌≤◌, Bool, true, false, ◌&&◌, nat_le, List, [], ◌∷◌, ◌++◌, length, map, refl, sym, ◌∙◌, ap, subst, arith}
+use Rattle.std.proofs.Common.{◌≡◌, ℕ, zero, suc, ◌+◌, ◌-◌, ◌<◌, ◌≤◌, Bool, true, false, ◌&&◌, nat_le, List, [], ◌∷◌, ◌++◌, length, refl, sym, ◌∙◌, ap, subst, arith}
 use Rattle.std.specs.List.{list_all, range_with_len, flat_map, filter, sum}
 use Rattle.std.proofs.lemmas.Bool.{and_parts, leb-true}
 use Rattle.xc_theory.specs.Lattices.{LatticeData}
@@ -15,9 +15,9 @@ use Rattle.xc_ctl.specs.FormulaFiles.{formula_format}
 use Rattle.xc_ctl.specs.Trees.{sizes_of}
 use Rattle.xc_ctl.proofs.Verdicts.{accepted_are_tables}
 use Rattle.xc_ctl.proofs.Ranges.{tables_in_range}
-use Rattle.xc_ctl.specs.Frames.{Frame, IsFrame}
+use Rattle.xc_ctl.specs.Frames.{IsFrame}
 use Rattle.xc_ctl.specs.Tables.{is_table, is_table_in, are_ordered_from}
-use Rattle.xc_ctl.specs.Rounds.{RoundsTable, IsTableFor}
+use Rattle.xc_ctl.specs.Rounds.{RoundsTable}
 use Rattle.xc_ctl.specs.declared.kind.Kind.{Kind}
 use Rattle.xc_top.specs.Checks.{signature_of, map_text, node_text, value_text, block_text, blocks_text, check_text, AreTables}
 use Rattle.xc_top.specs.Outcomes.{Outcome, Served, Reports}

@@ -1,6 +1,6 @@
 -- The parts of the text of the values of formulas.
-use Rattle.std.proofs.Common.{◌≡◌, ℕ, zero, suc, ◌+◌, ◌<◌, ◌≤◌, Bool, true, false, slice_index, List, [], ◌∷◌, ◌++◌, length, map, get_or, drop, add-one, append_assoc, append-nil, refl, sym, ◌∙◌, ap, subst, arith}
-use Rattle.std.specs.List.{range_with_len, filter, flat_map}
+use Rattle.std.proofs.Common.{◌≡◌, ℕ, zero, suc, ◌+◌, ◌<◌, List, [], ◌∷◌, ◌++◌, length, get_or, drop, add-one, append_assoc, append-nil, refl, sym, ◌∙◌, ap, arith}
+use Rattle.std.specs.List.{range_with_len, flat_map}
 use Rattle.xc_theory.specs.Codes.{AreDigits}
 use Rattle.xc_expr.specs.Variables.{sizes_of}
 use Rattle.xc_expr.specs.declared.domain.Domain.{Domain}

@@ -1,5 +1,5 @@
 -- What serving words comes to, from what preparing and delivering did.
-use Rattle.std.proofs.Common.{◌≡◌, ℕ, List, Option, Some, None, Result, Ok, Err, MatchOption, IsSome, IfSome, IfOk, IfErr, OnOk, ◌⊎◌, inl, refl, sym, ap, subst, arith}
+use Rattle.std.proofs.Common.{◌≡◌, ℕ, List, Option, Some, None, Result, Ok, Err, MatchOption, IsSome, IfSome, IfOk, IfErr, OnOk, inl, refl, sym, ap, subst, arith}
 use Rattle.std.proofs.Math.Seq.{take-append_seam}
 use Rattle.std.specs.String.{string_bytes}
 use Rattle.xc_base.specs.Shelves.{Told, Shelved}
@@ -8,7 +8,7 @@ use Rattle.xc_base.specs.declared.shelf.File.{File}
 use Rattle.xc_top.specs.Requests.{Request, request_of}
 use Rattle.xc_top.specs.Texts.{read_line}
 use Rattle.xc_top.specs.Outcomes.{Outcome, Absent, Refusal, Served, Ends, always, IsCourse, IsOutcome, IsReached}
-use Rattle.xc_top.specs.Headline.{IsServed, IsRefusal, MayRefuse, MayServe, MayLoad, Serves, AddsAtMost, FailedOnce, KeepsOrFails}
+use Rattle.xc_top.specs.Headline.{IsServed, IsRefusal, MayRefuse, MayServe, MayLoad, AddsAtMost, FailedOnce, KeepsOrFails}
 use Rattle.xc_top.specs.Working.{IsPrepared, IsWorked, CanEnd, IsWriteHalt, outcome_of, passed_status}
 use Rattle.xc_top.specs.declared.answer.Answer.{Answer}
 use Rattle.xc_top.specs.declared.answer.Passed.{Passed}

@@ -1,6 +1,6 @@
 -- What tables tell of the nodes of formulas over a merged machine, and the text of it.
-use Rattle.std.proofs.Common.{◌≡◌, ℕ, zero, suc, ◌+◌, ◌-◌, ◌<◌, ◌≤◌, Bool, true, false, cond, List, [], ◌∷◌, ◌++◌, length, map, get_or, take, drop, slice_index, refl, sym, ◌∙◌, ap, subst, append_assoc, append-nil, arith}
-use Rattle.std.specs.List.{filter, flat_map, list_all, range_with_len, slice_index_or}
+use Rattle.std.proofs.Common.{◌≡◌, ℕ, zero, suc, ◌+◌, ◌<◌, ◌≤◌, Bool, true, false, cond, List, [], ◌∷◌, ◌++◌, length, map, get_or, take, drop, slice_index, refl, sym, ◌∙◌, ap, subst, append_assoc, append-nil, arith}
+use Rattle.std.specs.List.{filter, flat_map, list_all, range_with_len}
 use Rattle.std.proofs.lemmas.List.{take_more, map-append, length-map, length-take, get_or-map, get_or_read, get_or_default}
 use Rattle.std.proofs.lemmas.List.Sums.{AllPass-from_list_all}
 use Rattle.xc_theory.specs.Lattices.{LatticeData, size}
@@ -11,7 +11,6 @@ use Rattle.xc_alg.specs.Products.{product, sizes}
 use Rattle.xc_expr.specs.Variables.{sizes_of}
 use Rattle.xc_expr.specs.declared.domain.Domain.{Domain}
 use Rattle.xc_ctl.specs.declared.formula.Formula.{Formula}
-use Rattle.xc_product.specs.Heights.{AreHeights}
 use Rattle.xc_merge.specs.Merges.{Merge, Viewpoint, parts_of, names_of_parts}
 use Rattle.xc_merge.specs.Projections.{states_of, row_of}
 use Rattle.xc_merge.specs.MergedFrames.{merged_frame, initials_of, is_merged_initial}
@@ -21,7 +20,7 @@ use Rattle.xc_ctl.specs.declared.kind.Kind.{Kind}
 use Rattle.xc_top.specs.Checks.{block_text, blocks_text, digits_text, kind_word, node_text, rounds_text, AreTables}
 use Rattle.xc_top.proofs.Saying.{digit_pushed, line_pushed}
 use Rattle.xc_top.specs.Saying.{mark_of, AddsBlock, AddsBlocks}
-use Rattle.xc_top.proofs.Lattices.{IsNamed, AreNamed}
+use Rattle.xc_top.proofs.Lattices.{AreNamed}
 
 -- what a test picks of the numbers from one on is below their end
 one_picked : (p : ℕ → Bool) (k n i s : ℕ) (states : List ℕ) (b : Bool) → p k ≡ b → 1 ≤ n → i < length (filter p (k ∷ states)) → s ≡ get_or (filter p (k ∷ states)) i s

@@ -11,17 +11,15 @@ use Rattle.xc_merge.specs.Faults.{merge_fault}
 use Rattle.xc_merge.specs.declared.fault.MergeFault.{MergeFault}
 use Rattle.xc_merge.specs.declared.fault.MergeFault.TheVariants.{UnknownValue, UnknownName, NotTotal, Elements, NoInitial, Initial}
 use Rattle.xc_merge.specs.declared.fault.MergeFault.TheVariants as faults
-use Rattle.xc_ctl.specs.Trees.{Signature}
-use Rattle.xc_ctl.specs.FormulaFiles.{formula_format}
 use Rattle.std.specs.String.{string_bytes}
 use Rattle.xc_base.specs.Shelves.{Told, Shelved, IsLoaded, HasRisen}
 use Rattle.xc_base.specs.declared.shelf.File.{File}
 use Rattle.xc_top.specs.Outcomes.{Event, Ends, Outcome, Refusal, Served, always, file_limit, IsCourse}
 use Rattle.xc_top.specs.Requests.{request_of}
 use Rattle.xc_top.specs.Texts.{read_line, file_line, broken_line, merge_line, value_line, name_line, total_line, product_line, no_initial_line, initial_line}
-use Rattle.xc_top.specs.Headline.{FailedOnce, KeepsOrFails, ForOutcome, IsRefusal, IsServed, MayRefuse, MayServe, Serves, MayLoad, AddsAtMost, GetsLine}
+use Rattle.xc_top.specs.Headline.{FailedOnce, KeepsOrFails, ForOutcome, IsRefusal, IsServed, MayRefuse, Serves, MayLoad, AddsAtMost, GetsLine}
 use Rattle.xc_top.specs.Asked.{halt_status, halt_line}
-use Rattle.xc_base.specs.Sinks.{Sunk, AddsWhole, AddsPart, AddsNothing}
+use Rattle.xc_base.specs.Sinks.{Sunk, AddsPart, AddsNothing}
 use Rattle.xc_top.specs.declared.halt.Halt.{Halt}
 use Rattle.xc_top.specs.declared.halt.Halt.TheVariants.{Words, Refused, ReadFault, WriteFault, Memory}
 use Rattle.xc_top.specs.declared.answer.Answer.{Answer}

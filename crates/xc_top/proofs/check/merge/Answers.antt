@@ -1,4 +1,4 @@
-use Rattle.std.proofs.Common.{rules, refl, sym, subst}
+use Rattle.std.proofs.Common.{rules, refl, subst}
 use Rattle.xc_merge.specs.Merges.{Merge}
 use Rattle.xc_merge.specs.Merging.{merge_in}
 use Rattle.xc_top.specs.Outcomes.{Opens, FormulaTasks}

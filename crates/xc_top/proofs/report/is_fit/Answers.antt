@@ -1,4 +1,4 @@
-use Rattle.std.proofs.Common.{◌≡◌, ℕ, length, arith}
+use Rattle.std.proofs.Common.{◌≡◌, length, arith}
 use Rattle.xc_machine.specs.Machines.{merge_of}
 use Rattle.xc_top.proofs.Lattices.{names_as_many}
 use Rattle.xc_top.proofs.Framed.{signature_is_fit}

@@ -1,5 +1,4 @@
 use Rattle.std.proofs.Common.{length, map, take}
-use Rattle.std.specs.String.{string_bytes}
 use Rattle.xc_alg.specs.Products.{product}
 use Rattle.xc_ctl.specs.Tables.{is_table_in}
 use Rattle.xc_ctl.specs.declared.formula.Formula.{Formula}
