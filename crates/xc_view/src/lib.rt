@@ -1,6 +1,7 @@
 //! Viewpoint files: guarded commands and propositions, with values of a lattice that is named and not looked up.
 #![tactic(auto)]
 
+mod copies;
 mod decide;
 mod draft;
 mod due;
