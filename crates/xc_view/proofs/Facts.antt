@@ -14,6 +14,7 @@ use Rattle.xc_expr.specs.Tests as tests
 use Rattle.xc_expr.specs.declared.assign.Assign.TheVariants as assigns
 use Rattle.xc_view.specs.ViewFiles.{ViewValue, Statement, View, Lattice, Var, var_excess, excess_of, missing_part, is_due, view_of, view_format}
 use Rattle.xc_view.specs.Deciding.{decide, line, word_line, command_parts}
+use Rattle.xc_view.specs.Printing.{view_lines}
 use Rattle.xc_view.specs.Meaning.{step_words, prop_words, step_value, prop_value_at, is_initial}
 
 abbrev o : List ℕ
@@ -91,3 +92,26 @@ limits = (refl, refl, refl, refl, refl)
 -- what a file lacks, in its order
 pub lacking : (missing_part [] ≡ Some parts.Head) × (missing_part (View x ∷ []) ≡ Some parts.Lattice) × (missing_part (View x ∷ Lattice x ∷ []) ≡ Some parts.Var) × (missing_part (View x ∷ Lattice x ∷ Var x (o ∷ i ∷ []) ∷ []) ≡ Some parts.Init)
 lacking = (refl, refl, refl, refl)
+
+-- the lines of Bob's canonical text, and those of a view with two variables, two lines of a proposition and no command
+pub lines_of_bob : view_lines bob
+    ≡ (codes "view" ∷ codes "bob" ∷ []) ∷ (codes "lattice" ∷ codes "chain.lat" ∷ []) ∷ (codes "var" ∷ x ∷ o ∷ i ∷ []) ∷ (codes "init" ∷ x ∷ codes "=" ∷ o ∷ [])
+    ∷ (codes "prop" ∷ codes "p" ∷ T ∷ codes "when" ∷ x ∷ codes "=" ∷ i ∷ [])
+    ∷ (codes "command" ∷ codes "go" ∷ codes "with" ∷ M ∷ codes "when" ∷ x ∷ codes "=" ∷ o ∷ codes "do" ∷ x ∷ codes ":=" ∷ i ∷ [])
+    ∷ (codes "command" ∷ codes "back" ∷ codes "with" ∷ T ∷ codes "when" ∷ x ∷ codes "=" ∷ i ∷ codes "do" ∷ x ∷ codes ":=" ∷ o ∷ []) ∷ []
+lines_of_bob = refl
+
+abbrev quiet : ViewValue
+quiet =
+    record bob {
+      vars = record { name = x; values = o ∷ i ∷ [] } ∷ record { name = codes "y"; values = T ∷ o ∷ [] } ∷ [];
+      init = tests.Not (tests.Is 1 0);
+      props = record { name = codes "q"; value = M; guard = tests.True } ∷ record { name = codes "p"; value = T; guard = tests.IsNot 0 1 } ∷ [];
+      commands = [];
+    }
+
+pub lines_of_quiet : view_lines quiet
+    ≡ (codes "view" ∷ codes "bob" ∷ []) ∷ (codes "lattice" ∷ codes "chain.lat" ∷ []) ∷ (codes "var" ∷ x ∷ o ∷ i ∷ []) ∷ (codes "var" ∷ codes "y" ∷ T ∷ o ∷ [])
+    ∷ (codes "init" ∷ codes "!" ∷ codes "y" ∷ codes "=" ∷ T ∷ [])
+    ∷ (codes "prop" ∷ codes "q" ∷ M ∷ codes "when" ∷ codes "true" ∷ []) ∷ (codes "prop" ∷ codes "p" ∷ T ∷ codes "when" ∷ x ∷ codes "!=" ∷ i ∷ []) ∷ []
+lines_of_quiet = refl

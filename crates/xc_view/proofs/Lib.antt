@@ -11,3 +11,4 @@ pub mod Gathering
 pub mod Sound
 pub mod Gathered
 pub mod Verdicts
+pub mod Printing

@@ -2,6 +2,8 @@ pub mod ViewFiles
 pub mod Parts
 pub mod Views
 pub mod Meaning
+pub mod Printing
+pub mod Spelled
 pub mod Deciding
 pub mod Laws
 pub mod Statements

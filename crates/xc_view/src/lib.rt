@@ -9,6 +9,7 @@ mod gather;
 mod judge;
 mod limits;
 mod lines;
+mod print;
 mod reader;
 mod rows;
 mod statement;
@@ -20,5 +21,7 @@ pub use reader::read;
 pub use verdict::{ViewFiles, files_have_one_view};
 pub use view::View;
 
+#[cfg(test)]
+mod print_tests;
 #[cfg(test)]
 mod tests;

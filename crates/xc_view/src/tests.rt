@@ -103,7 +103,7 @@ fn commands_told(alloc: Global, view: &View) -> Result<String, AllocError> {
     Ok(text)
 }
 
-fn view_told(alloc: Global, view: &View) -> Result<String, AllocError> {
+pub(crate) fn view_told(alloc: Global, view: &View) -> Result<String, AllocError> {
     let head = head_told(alloc, view)?;
     let init = guard_told(alloc, view.init())?;
     let props = props_told(alloc, view)?;
