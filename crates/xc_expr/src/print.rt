@@ -1,10 +1,11 @@
 //! Guards and actions as text.
 
-ghost use Rattle.std.specs.Prelude.{◌≡◌, ◌<◌, ◌++◌, ◌∷◌, [], true, length, IfOk, OnOk, OnErr};
+ghost use Rattle.std.specs.Prelude.{◌≡◌, ◌<◌, ◌++◌, ◌∷◌, [], true, List, length, IfOk, OnOk, OnErr};
 ghost use Rattle.std.specs.List.{list_all};
 ghost use Rattle.xc_base.specs.Canonical.{spaced};
 ghost use Rattle.xc_base.specs.Lines.{texts};
 ghost use Rattle.xc_expr.specs.Variables.{are_fit, values_at};
+ghost use Rattle.xc_expr.specs.declared.domain.Domain.{Domain};
 ghost use Rattle.xc_expr.specs.Tests.{test_of, is_in_range};
 ghost use Rattle.xc_expr.specs.Actions.{is_assign_in_range, is_action_in_range};
 ghost use Rattle.xc_expr.specs.Written.{assignment_tokens, action_tokens};
@@ -71,14 +72,14 @@ fn value_name(vars: &Vars, var: u8, value: u8) -> &[u8]
     values.get(usize::from(value)).as_str().as_bytes()
 }
 
-fn is_or(guard: &Guard, vars: &Vars) -> bool
-    ensures { result ≡ is_or (named_guard vars.now (test_of guard.now)) }
+fn is_or(guard: &Guard) -> bool
+    ensures { (vars : List Domain) → result ≡ is_or (named_guard vars (test_of guard.now)) }
 {
     matches!(guard, Guard::Or(..))
 }
 
-fn is_joined(guard: &Guard, vars: &Vars) -> bool
-    ensures { result ≡ is_joined (named_guard vars.now (test_of guard.now)) }
+fn is_joined(guard: &Guard) -> bool
+    ensures { (vars : List Domain) → result ≡ is_joined (named_guard vars (test_of guard.now)) }
 {
     matches!(guard, Guard::And(..) | Guard::Or(..))
 }
@@ -135,17 +136,17 @@ fn write_guard<'v>(
         }
         Guard::Not(inner) => {
             push(tokens, b"!")?;
-            write_operand(tokens, inner, vars, is_joined(inner, vars))
+            write_operand(tokens, inner, vars, is_joined(inner))
         }
         Guard::And(left, right) => {
-            write_operand(tokens, left, vars, is_or(left, vars))?;
+            write_operand(tokens, left, vars, is_or(left))?;
             push(tokens, b"&")?;
-            write_operand(tokens, right, vars, is_joined(right, vars))
+            write_operand(tokens, right, vars, is_joined(right))
         }
         Guard::Or(left, right) => {
             write_guard(tokens, left, vars)?;
             push(tokens, b"|")?;
-            write_operand(tokens, right, vars, is_or(right, vars))
+            write_operand(tokens, right, vars, is_or(right))
         }
     }
 }
