@@ -1,5 +1,5 @@
 -- Viewpoint files and what views mean at small cases whose values are known from outside: a wrong definition does not check here.
-use Rattle.std.proofs.Common.{◌≡◌, ℕ, Bool, true, false, List, [], ◌∷◌, ◌++◌, replicate, Some, None, Ok, Err, codes, refl}
+use Rattle.std.proofs.Common.{◌≡◌, ℕ, Bool, true, false, List, [], ◌∷◌, ◌++◌, replicate, Some, None, Err, codes, refl}
 use Rattle.xc_theory.specs.Bounds.{first_join}
 use Rattle.xc_base.specs.Deciding.{line_of, statements_of, file_of, statement_fault}
 use Rattle.xc_base.specs.Formats.{Row}
@@ -12,7 +12,7 @@ use Rattle.xc_expr.specs.ActionReading.{assignment_in, assignments_in}
 use Rattle.xc_expr.specs.Reading.{guard_in, action_in}
 use Rattle.xc_expr.specs.Tests as tests
 use Rattle.xc_expr.specs.declared.assign.Assign.TheVariants as assigns
-use Rattle.xc_view.specs.ViewFiles.{ViewValue, Statement, View, Lattice, Var, var_excess, excess_of, missing_part, is_due, view_of, view_format}
+use Rattle.xc_view.specs.ViewFiles.{ViewValue, View, Lattice, Var, var_excess, missing_part, view_format}
 use Rattle.xc_view.specs.Deciding.{decide, line, word_line, command_parts}
 use Rattle.xc_view.specs.Printing.{view_lines}
 use Rattle.xc_view.specs.Meaning.{step_words, prop_words, step_value, prop_value_at, is_initial}

@@ -81,7 +81,7 @@ fn push_init(alloc: Global, text: &mut Bytes, vars: &Vars, init: &Guard) -> Resu
     ensures { OnOk result (text.new ≡ text.old ++ spelled InitLine (named_guard vars.now (test_of init.now) ∷ [])) }
 {
     let mut tokens = List::of(alloc, &[word(b"init")])?;
-    push_guard(&mut tokens, init, vars)?;
+    push_guard(alloc, &mut tokens, init, vars)?;
     push_line(text, tokens.as_slice())
 }
 
@@ -92,7 +92,7 @@ fn push_prop(alloc: Global, text: &mut Bytes, vars: &Vars, line: &PropLine) -> R
 {
     let (name, value) = (lexeme(&line.name), lexeme(&line.value));
     let mut tokens = List::of(alloc, &[word(b"prop"), name, value, word(b"when")])?;
-    push_guard(&mut tokens, &line.guard, vars)?;
+    push_guard(alloc, &mut tokens, &line.guard, vars)?;
     push_line(text, tokens.as_slice())
 }
 
@@ -123,9 +123,9 @@ fn command_tokens<'a>(
     let (name, value) = (lexeme(&command.name), lexeme(&command.value));
     let front = [word(b"command"), name, word(b"with"), value, word(b"when")];
     let mut tokens = List::of(alloc, &front)?;
-    push_guard(&mut tokens, &command.guard, vars)?;
+    push_guard(alloc, &mut tokens, &command.guard, vars)?;
     tokens.push(word(b"do"))?;
-    push_action(&mut tokens, &command.action, vars)?;
+    push_action(alloc, &mut tokens, &command.action, vars)?;
     Ok(tokens)
 }
 
