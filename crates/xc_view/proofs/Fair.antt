@@ -3,7 +3,7 @@ use Rattle.std.proofs.Common.{◌≡◌, ℕ, ◌+◌, ◌<◌, ◌≤◌, Bool,
 use Rattle.std.specs.List.{list_all, list_any}
 use Rattle.std.specs.Option.{is_none}
 use Rattle.std.specs.Str.{bytes_eq}
-use Rattle.std.proofs.lemmas.Bool.{and_from, or_parts, or_from, ltb-true, ltb-false, not_from_false, not-true, false_from_ne_true, both_ways}
+use Rattle.std.proofs.lemmas.Bool.{and_from, or_parts, or_from, ltb-true, ltb-false, not_from_false, not-true, false_from_ne_true, both_ways, le-leb}
 use Rattle.std.proofs.Math.Bool.{or-false}
 use Rattle.std.proofs.lemmas.List.{append-nil, map-append}
 use Rattle.std.proofs.lemmas.List.Folds.{list_all-append, list_any-append}
@@ -18,8 +18,10 @@ use Rattle.xc_expr.specs.Resolving.{resolved, resolved_action, sets_twice}
 use Rattle.xc_expr.specs.declared.domain.Domain.{Domain}
 use Rattle.xc_view.specs.ViewFiles.{Statement, View, Lattice, Var, Init, Prop, Command, IsStated, vars_of, is_view, is_lattice, is_due, is_behind_vars, is_repeated, is_unknown, is_prop, is_command, is_command_of, count_of, line_limit, line_excess, var_excess, excess_of, view_format}
 use Rattle.xc_view.specs.ViewFiles.IsStated.{view, lattice, var, init, prop, command}
-use Rattle.xc_expr.specs.Written.{is_variable_name, is_value_name}
-use Rattle.xc_view.specs.Drafts.{begins, is_named, is_known, command_names, AreSized, IsFair}
+use Rattle.xc_expr.specs.Writable.{has_fit_names, depth_of}
+use Rattle.xc_expr.specs.Written.{Written, Sum, IsGuard, is_variable_name, is_value_name, has_names, depth_limit}
+use Rattle.xc_expr.proofs.GuardPrints.{spelled_deep, spelled_names}
+use Rattle.xc_view.specs.Drafts.{begins, is_named, is_guard_written, is_written, is_known, command_names, AreSized, IsFair}
 use Rattle.xc_view.proofs.Sizes.{fit_from_sized}
 
 -- an option with a value is not empty
@@ -37,7 +39,7 @@ vars_append (Prop name value guard ∷ ss) ts = vars_append ss ts
 vars_append (Command name value guard action ∷ ss) ts = vars_append ss ts
 
 -- the commands' names, and how many statements pass a test, likewise
-names_append : (ss ts : List Statement) → command_names (ss ++ ts) ≡ command_names ss ++ command_names ts
+pub names_append : (ss ts : List Statement) → command_names (ss ++ ts) ≡ command_names ss ++ command_names ts
 names_append [] ts = refl
 names_append (View name ∷ ss) ts = names_append ss ts
 names_append (Lattice file ∷ ss) ts = names_append ss ts
@@ -47,7 +49,7 @@ names_append (Prop name value guard ∷ ss) ts = names_append ss ts
 names_append (Command name value guard action ∷ ss) ts = ap (λ (names : List (List ℕ)). name ∷ names) (names_append ss ts)
 
 -- how many of two lists pass a test
-count_append : (p : Statement → Bool) (ss ts : List Statement) → count_of p (ss ++ ts) ≡ count_of p ss + count_of p ts
+pub count_append : (p : Statement → Bool) (ss ts : List Statement) → count_of p (ss ++ ts) ≡ count_of p ss + count_of p ts
 count_append p [] ts = omega arith
 count_append p (s ∷ ss) ts = omega (arith, count_append p ss ts)
 
@@ -68,12 +70,27 @@ named_from before (command name value tokens more guard action n v g a) r =
     and_from (is_name name && is_name value) (not (sets_twice action)) (and_from (is_name name) (is_name value) n v)
     (not_from_false (sets_twice action) (or_parts (list_any (is_command_of name) before) (sets_twice action) r).1)
 
+-- and is written with fit names
+guard_from : (tokens : List (List ℕ)) (guard : Written) → IsGuard tokens guard → is_guard_written guard ≡ true
+guard_from tokens guard g = and_from (has_fit_names guard) (nat_le (depth_of guard) depth_limit) (spelled_names Sum depth_limit tokens guard g) (le-leb (depth_of guard) depth_limit (spelled_deep Sum depth_limit tokens guard g))
+
+written_from : {tokens : List (List ℕ)} {s : Statement} → IsStated tokens s → is_written s ≡ true
+written_from (view name h) = refl
+written_from (lattice file h) = refl
+written_from (var name value values h k) = refl
+written_from (init tokens guard g) = guard_from tokens guard g
+written_from (prop name value tokens guard n v g) = guard_from tokens guard g
+written_from (command name value tokens more guard action n v g a) = and_from (is_guard_written guard) (list_all has_names action) (guard_from tokens guard g) a.named
+
+written_push : (ss : List Statement) (s : Statement) → list_all is_written ss ≡ true → is_written s ≡ true → list_all is_written (ss ++ s ∷ []) ≡ true
+written_push ss s a h = list_all-append is_written ss (s ∷ []) ∙ and_from (list_all is_written ss) (is_written s && true) a (and_from (is_written s) true h refl)
+
 -- all are named, and one more
 named_push : (ss : List Statement) (s : Statement) → list_all is_named ss ≡ true → is_named s ≡ true → list_all is_named (ss ++ s ∷ []) ≡ true
 named_push ss s a h = list_all-append is_named ss (s ∷ []) ∙ and_from (list_all is_named ss) (is_named s && true) a (and_from (is_named s) true h refl)
 
 -- a name more that is not among the others
-not_same : (x y : List ℕ) → bytes_eq y x ≡ false → bytes_eq x y ≡ false
+pub not_same : (x y : List ℕ) → bytes_eq y x ≡ false → bytes_eq x y ≡ false
 not_same x y h =
     false_from_ne_true (bytes_eq x y) (λ (e : bytes_eq x y ≡ true).
     both_ways (bytes_eq y x) h (subst (λ (z : List ℕ). bytes_eq z x ≡ true) (same_bytes x y e) (bytes_refl x)))
@@ -153,7 +170,7 @@ commands_new ss (Prop name value guard) h few = omega arith
 commands_new ss (Command name value guard action) h few = omega (arith, below_limit (count_of is_command ss) _ few)
 
 -- the names of commands
-named_commands : (name : List ℕ) (ss : List Statement) → is_among (command_names ss) name ≡ list_any (is_command_of name) ss
+pub named_commands : (name : List ℕ) (ss : List Statement) → is_among (command_names ss) name ≡ list_any (is_command_of name) ss
 named_commands name [] = refl
 named_commands name (View other ∷ ss) = named_commands name ss
 named_commands name (Lattice file ∷ ss) = named_commands name ss
@@ -221,6 +238,7 @@ next_is_fair ss tokens s h k =
     record {
       starts = begins_push ss s h.starts k.due.placed;
       named = named_push ss s h.named (named_from ss k.due.stated k.first);
+      written = written_push ss s h.written (written_from k.due.stated);
       sized = subst AreSized (sym (vars_append ss (s ∷ []))) (sized_new (vars_of ss) ss s refl h.sized k.first k.few);
       known = known_new ss s k.due.placed k.known h.known;
       props = subst (λ (n : ℕ). n ≤ line_limit) (sym (count_append is_prop ss (s ∷ []))) (props_new ss s h.props k.few);
@@ -230,7 +248,7 @@ next_is_fair ss tokens s h k =
 
 -- no statement at all
 pub none_is_fair : IsFair []
-none_is_fair = record { starts = refl; named = refl; sized = record { different = refl; domains = refl; states = omega arith }; known = refl; props = omega arith; commands = omega arith; once = refl }
+none_is_fair = record { starts = refl; named = refl; written = refl; sized = record { different = refl; domains = refl; states = omega arith }; known = refl; props = omega arith; commands = omega arith; once = refl }
 
 -- where a statement with a guard is due the variables are fit
 some_vars : (ss : List Statement) (s : Statement) → is_behind_vars s ≡ true → is_due ss s ≡ true → 0 < length (vars_of ss)

@@ -7,12 +7,14 @@ use Rattle.xc_expr.specs.Tests.{Test}
 use Rattle.xc_expr.specs.declared.domain.Domain.{Domain}
 use Rattle.xc_view.specs.ViewFiles.{PropValue, CommandValue, ViewValue, vars_of, is_lattice, first_name, first_lattice, first_init, props_of, commands_of, missing_part}
 use Rattle.xc_view.specs.Parts.{is_sound}
+use Rattle.xc_view.specs.Writable.{is_writable}
 use Rattle.xc_view.specs.Statements.{stated}
 use Rattle.xc_view.specs.Drafts.{all_stated, begins, is_known}
 use Rattle.xc_view.specs.declared.draft.Draft.{Draft}
 use Rattle.xc_view.specs.declared.statement.Statement as code
 use Rattle.xc_view.proofs.Sizes.{fit_from_sized}
 use Rattle.xc_view.proofs.Sound.{two_there, var_there, view_is_sound}
+use Rattle.xc_view.proofs.Writing.{view_is_writable}
 use Rattle.xc_view.proofs.Gathering.{ViewOf, view_is, first_is_view, second_is_lattice}
 
 -- a draft of a whole file, and the slice of its statements
@@ -56,3 +58,6 @@ module _ (d : Draft) (slice : List code.Statement) (whole : missing_part (all_st
       pub gathered_sound : is_sound (record { name = name; lattice = lattice; vars = d.vars; init = init; props = props; commands = commands }) ≡ true
       gathered_sound =
           subst (λ (v : ViewValue). is_sound v ≡ true) (sym gathered) (view_is_sound (all_stated d.statements) d.fair whole)
+
+      pub gathered_writable : is_writable (record { name = name; lattice = lattice; vars = d.vars; init = init; props = props; commands = commands }) ≡ true
+      gathered_writable = subst (λ (v : ViewValue). is_writable v ≡ true) (sym gathered) (view_is_writable (all_stated d.statements) d.fair)

@@ -9,6 +9,10 @@ pub mod Expressions
 pub mod Deciding
 pub mod Gathering
 pub mod Sound
+pub mod Writing
 pub mod Gathered
 pub mod Verdicts
 pub mod Printing
+pub mod Restating
+pub mod Again
+pub mod Rereading

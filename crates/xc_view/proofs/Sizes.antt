@@ -19,7 +19,7 @@ pub at_least_two : (d : Domain) → is_domain d ≡ true → 2 ≤ length d.valu
 at_least_two d h = leb-true 2 (length d.values) (and_parts _ _ (and_parts _ _ h).0).0
 
 -- each variable doubles the states at least
-power_below : (k : ℕ) (vars : List Domain) → k ≤ length vars → list_all is_domain vars ≡ true → 2 ^ k ≤ total (sizes_of vars)
+pub power_below : (k : ℕ) (vars : List Domain) → k ≤ length vars → list_all is_domain vars ≡ true → 2 ^ k ≤ total (sizes_of vars)
 power_below zero [] low h = omega arith
 power_below (suc k) [] low h = absurd (omega arith)
 power_below zero (d ∷ vars) low h =

@@ -1,6 +1,6 @@
 -- What holds of faultless statements, read one after another.
 -- Words for the steps of the code: public clauses do not rest on them.
-use Rattle.std.specs.Prelude.{◌≡◌, ◌≤◌, ℕ, Bool, true, false, ◌&&◌, ◌||◌, not, List, [], ◌∷◌, map}
+use Rattle.std.specs.Prelude.{◌≡◌, ◌≤◌, ℕ, nat_le, Bool, true, false, ◌&&◌, ◌||◌, not, List, [], ◌∷◌, map}
 use Rattle.std.specs.List.{list_all}
 use Rattle.std.specs.Option.{is_none}
 use Rattle.xc_theory.specs.Codes.{total}
@@ -8,7 +8,8 @@ use Rattle.xc_base.specs.Names.{has_twice}
 use Rattle.xc_base.specs.Words.{is_name, is_file_word}
 use Rattle.xc_expr.specs.Variables.{names_of, sizes_of, is_domain, state_limit}
 use Rattle.xc_expr.specs.Resolving.{resolved, resolved_action, sets_twice}
-use Rattle.xc_expr.specs.Written.{is_variable_name, is_value_name}
+use Rattle.xc_expr.specs.Writable.{has_fit_names, depth_of}
+use Rattle.xc_expr.specs.Written.{Written, is_variable_name, is_value_name, has_names, depth_limit}
 use Rattle.xc_expr.specs.declared.domain.Domain.{Domain}
 use Rattle.xc_view.specs.ViewFiles.{Statement, View, Lattice, Var, Init, Prop, Command, vars_of, is_view, is_lattice, is_prop, is_command, count_of, line_limit}
 use Rattle.xc_view.specs.Statements.{stated}
@@ -28,6 +29,18 @@ is_named (Var name values) = is_variable_name name && list_all is_value_name val
 is_named (Init guard) = true
 is_named (Prop name value guard) = is_name name && is_name value
 is_named (Command name value guard action) = is_name name && is_name value && not (sets_twice action)
+
+-- guards and actions are written with fit names, and no guard is too deep
+abbrev pub is_guard_written : Written → Bool
+is_guard_written guard = has_fit_names guard && nat_le (depth_of guard) depth_limit
+
+abbrev pub is_written : Statement → Bool
+is_written (View name) = true
+is_written (Lattice file) = true
+is_written (Var name values) = true
+is_written (Init guard) = is_guard_written guard
+is_written (Prop name value guard) = is_guard_written guard
+is_written (Command name value guard action) = is_guard_written guard && list_all has_names action
 
 -- the names in a guard and in an action are known
 abbrev pub is_known : List Domain → Statement → Bool
@@ -58,6 +71,7 @@ pub record AreSized (vars : List Domain) : Type 0 where
 pub record IsFair (statements : List Statement) : Type 0 where
   pub starts : begins statements ≡ true
   pub named : list_all is_named statements ≡ true
+  pub written : list_all is_written statements ≡ true
   pub sized : AreSized (vars_of statements)
   pub known : list_all (is_known (vars_of statements)) statements ≡ true
   pub props : count_of is_prop statements ≤ line_limit

@@ -4,6 +4,7 @@ pub mod Views
 pub mod Meaning
 pub mod Printing
 pub mod Spelled
+pub mod Writable
 pub mod Deciding
 pub mod Laws
 pub mod Statements

@@ -160,13 +160,21 @@ fn push_commands(
 }
 
 impl View {
-    ghost use Rattle.xc_base.specs.Canonical.{canonical};
+    ghost use Rattle.std.specs.Prelude.{ℕ, None, ◌≤◌, length};
+    ghost use Rattle.xc_base.specs.Canonical.{canonical, is_short};
+    ghost use Rattle.xc_base.specs.Formats.{IsAccepted};
+    ghost use Rattle.xc_base.specs.Lines.{text_rows};
+    ghost use Rattle.xc_base.specs.Text.{text_fault};
+    ghost use Rattle.xc_view.specs.ViewFiles.{view_format};
     ghost use Rattle.xc_view.specs.Views.{value_of};
     ghost use Rattle.xc_view.specs.Printing.{view_lines};
 
-    /// The canonical text, or the want of memory for it.
+    /// The canonical text, or the want of memory for it. It is read again as the same view, where no line is too long.
     pub fn print(&self, alloc: Global) -> Result<Bytes, Memory>
         ensures text { IfOk result (λ text. text ≡ canonical (view_lines (value_of self.now))) }
+        ensures again { IfOk result (λ text. IsAccepted view_format (text_rows text) (value_of self.now)) }
+        ensures sound { list_all is_short (view_lines (value_of self.now)) ≡ true
+            → IfOk result (λ text. (limit : ℕ) → length text ≤ limit → text_fault limit text ≡ None) }
     {
         let vars = self.vars();
         let mut text = List::new(alloc);

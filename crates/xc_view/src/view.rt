@@ -1,6 +1,7 @@
 ghost use Rattle.std.specs.Prelude.{◌≡◌, true, map};
 ghost use Rattle.xc_expr.specs.Tests.{test_of};
 ghost use Rattle.xc_view.specs.Parts.{prop_value, command_value, is_sound};
+ghost use Rattle.xc_view.specs.Writable.{is_writable};
 
 use crate::lines::{Command, PropLine};
 use xc_base::{List, Word};
@@ -8,8 +9,8 @@ use xc_expr::{Guard, Vars};
 
 /// What a stakeholder says of a system: its variables, where it begins, its propositions and its steps.
 ///
-/// Values stay words, to be looked up in the lattice that the view names. What is named by number is there, and nothing is
-/// longer or more than it may be.
+/// Values stay words, to be looked up in the lattice that the view names. What is named by number is there, nothing is longer or
+/// more than it may be, and guards and actions can be written by names that say what they are.
 #[derive(Debug, Drop)]
 pub struct View {
     name: Word,
@@ -19,6 +20,7 @@ pub struct View {
     props: List<PropLine>,
     commands: List<Command>,
     ghost sound: { is_sound (record { name = name; lattice = lattice; vars = vars; init = test_of init; props = map prop_value props; commands = map command_value commands }) ≡ true },
+    ghost writable: { is_writable (record { name = name; lattice = lattice; vars = vars; init = test_of init; props = map prop_value props; commands = map command_value commands }) ≡ true },
 }
 
 impl View {
@@ -33,7 +35,8 @@ impl View {
         props: List<PropLine>,
         commands: List<Command>,
     ) -> View
-        requires { is_sound (record { name = name; lattice = lattice; vars = vars; init = test_of init; props = map prop_value props; commands = map command_value commands }) ≡ true }
+        requires sound { is_sound (record { name = name; lattice = lattice; vars = vars; init = test_of init; props = map prop_value props; commands = map command_value commands }) ≡ true }
+        requires writable { is_writable (record { name = name; lattice = lattice; vars = vars; init = test_of init; props = map prop_value props; commands = map command_value commands }) ≡ true }
         ensures { value_of result
             ≡ record { name = name; lattice = lattice; vars = vars; init = test_of init; props = map prop_value props; commands = map command_value commands } }
     {

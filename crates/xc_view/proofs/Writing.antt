@@ -1,0 +1,78 @@
+-- What fair statements say can be written.
+use Rattle.std.proofs.Common.{◌≡◌, true, false, ◌&&◌, not, nat_le, List, [], ◌∷◌, Option, Some, None, unwrap_or, refl}
+use Rattle.std.specs.List.{list_all}
+use Rattle.std.proofs.lemmas.Bool.{and_parts, and_from, not-true, leb-true}
+use Rattle.xc_base.specs.Words.{is_name}
+use Rattle.xc_expr.specs.Printing.{guard_tokens}
+use Rattle.xc_expr.specs.Resolving.{resolved, resolved_action, sets_twice}
+use Rattle.xc_expr.specs.Tests as tests
+use Rattle.xc_expr.specs.Writable.{has_fit_names, depth_of, is_writable_guard, is_writable_action}
+use Rattle.xc_expr.specs.Written.{Written, Assigned, has_names, action_tokens, depth_limit}
+use Rattle.xc_expr.specs.declared.assign.Assign.{Assign}
+use Rattle.xc_expr.specs.declared.domain.Domain.{Domain}
+use Rattle.xc_expr.proofs.ActionsAgain.{read_actions_are_writable}
+use Rattle.xc_expr.proofs.GuardPrints.{printed_sum}
+use Rattle.xc_expr.proofs.GuardsAgain.{read_guards_are_writable}
+use Rattle.xc_view.specs.Drafts.{is_named, is_guard_written, is_written, IsFair}
+use Rattle.xc_view.specs.ViewFiles.{Statement, View, Lattice, Var, Init, Prop, Command, vars_of, test_in, assigns_in, first_init, props_of, commands_of, view_of}
+use Rattle.xc_view.specs.Writable.{is_writable_prop, is_writable_command, is_writable}
+
+module _ (vars : List Domain) where
+  -- a guard and an action that are written with fit names can be written
+  guard_writable : (guard : Written) → is_guard_written guard ≡ true → is_writable_guard vars (test_in vars guard) ≡ true
+  guard_writable guard h = by_test (resolved vars guard) refl
+    where
+      by_test : (o : Option tests.Test) → resolved vars guard ≡ o → is_writable_guard vars (unwrap_or o tests.False) ≡ true
+      by_test None e = refl
+      by_test (Some test) e =
+          let fits = and_parts (has_fit_names guard) (nat_le (depth_of guard) depth_limit) h in
+          read_guards_are_writable vars (guard_tokens guard) test (record { guard = guard; spelled = printed_sum guard depth_limit fits.0 (leb-true (depth_of guard) depth_limit fits.1); known = e })
+
+  action_writable : (action : List Assigned) → list_all has_names action ≡ true → sets_twice action ≡ false → is_writable_action vars (assigns_in vars action) ≡ true
+  action_writable action h once = by_action (resolved_action vars action) refl
+    where
+      by_action : (o : Option (List Assign)) → resolved_action vars action ≡ o → is_writable_action vars (unwrap_or o []) ≡ true
+      by_action None e = refl
+      by_action (Some assigns) e = read_actions_are_writable vars (action_tokens action) assigns (record { action = action; spelled = record { spelled = refl; named = h }; once = once; known = e })
+
+  -- so can those of the initial states, of lines and of commands
+  init_writable : (ss : List Statement) → list_all is_written ss ≡ true → is_writable_guard vars (first_init vars ss) ≡ true
+  init_writable [] h = refl
+  init_writable (View name ∷ ss) h = init_writable ss h
+  init_writable (Lattice file ∷ ss) h = init_writable ss h
+  init_writable (Var name values ∷ ss) h = init_writable ss h
+  init_writable (Init guard ∷ ss) h = guard_writable guard (and_parts (is_guard_written guard) (list_all is_written ss) h).0
+  init_writable (Prop name value guard ∷ ss) h = init_writable ss (and_parts (is_guard_written guard) (list_all is_written ss) h).1
+  init_writable (Command name value guard action ∷ ss) h = init_writable ss (and_parts (is_written (Command name value guard action)) (list_all is_written ss) h).1
+
+  props_writable : (ss : List Statement) → list_all is_written ss ≡ true → list_all (is_writable_prop vars) (props_of vars ss) ≡ true
+  props_writable [] h = refl
+  props_writable (View name ∷ ss) h = props_writable ss h
+  props_writable (Lattice file ∷ ss) h = props_writable ss h
+  props_writable (Var name values ∷ ss) h = props_writable ss h
+  props_writable (Init guard ∷ ss) h = props_writable ss (and_parts (is_guard_written guard) (list_all is_written ss) h).1
+  props_writable (Prop name value guard ∷ ss) h =
+      let parts = and_parts (is_guard_written guard) (list_all is_written ss) h in
+      and_from (is_writable_guard vars (test_in vars guard)) (list_all (is_writable_prop vars) (props_of vars ss)) (guard_writable guard parts.0) (props_writable ss parts.1)
+  props_writable (Command name value guard action ∷ ss) h = props_writable ss (and_parts (is_written (Command name value guard action)) (list_all is_written ss) h).1
+
+  commands_writable : (ss : List Statement) → list_all is_named ss ≡ true → list_all is_written ss ≡ true → list_all (is_writable_command vars) (commands_of vars ss) ≡ true
+  commands_writable [] n h = refl
+  commands_writable (View name ∷ ss) n h = commands_writable ss (and_parts _ (list_all is_named ss) n).1 h
+  commands_writable (Lattice file ∷ ss) n h = commands_writable ss (and_parts _ (list_all is_named ss) n).1 h
+  commands_writable (Var name values ∷ ss) n h = commands_writable ss (and_parts _ (list_all is_named ss) n).1 h
+  commands_writable (Init guard ∷ ss) n h = commands_writable ss n (and_parts (is_guard_written guard) (list_all is_written ss) h).1
+  commands_writable (Prop name value guard ∷ ss) n h = commands_writable ss (and_parts _ (list_all is_named ss) n).1 (and_parts (is_guard_written guard) (list_all is_written ss) h).1
+  commands_writable (Command name value guard action ∷ ss) n h =
+      let names = and_parts (is_name name && is_name value && not (sets_twice action)) (list_all is_named ss) n in
+      let once = and_parts (is_name name && is_name value) (not (sets_twice action)) names.0 in
+      let parts = and_parts (is_written (Command name value guard action)) (list_all is_written ss) h in
+      let written = and_parts (is_guard_written guard) (list_all has_names action) parts.0 in
+      and_from _ (list_all (is_writable_command vars) (commands_of vars ss))
+      (and_from (is_writable_guard vars (test_in vars guard)) (is_writable_action vars (assigns_in vars action)) (guard_writable guard written.0) (action_writable action written.1 (not-true (sets_twice action) once.1)))
+      (commands_writable ss names.1 parts.1)
+
+-- a view of fair statements can be written
+pub view_is_writable : (ss : List Statement) → IsFair ss → is_writable (view_of ss) ≡ true
+view_is_writable ss h =
+    and_from _ _ (and_from _ _ (init_writable (vars_of ss) ss h.written) (props_writable (vars_of ss) ss h.written)) (commands_writable (vars_of ss) ss h.named h.written)
