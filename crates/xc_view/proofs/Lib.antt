@@ -16,3 +16,6 @@ pub mod Printing
 pub mod Restating
 pub mod Again
 pub mod Rereading
+pub mod LineSizes
+pub mod RowSizes
+pub mod ShortViews

@@ -5,6 +5,7 @@ pub mod Meaning
 pub mod Printing
 pub mod Spelled
 pub mod Writable
+pub mod Cut
 pub mod Deciding
 pub mod Laws
 pub mod Statements
