@@ -15,6 +15,7 @@ use Rattle.xc_expr.specs.declared.assign.Assign.TheVariants as assigns
 use Rattle.xc_view.specs.ViewFiles.{ViewValue, View, Lattice, Var, var_excess, missing_part, view_format}
 use Rattle.xc_view.specs.Deciding.{decide, line, word_line, command_parts}
 use Rattle.xc_view.specs.Printing.{view_lines}
+use Rattle.xc_view.specs.Writable.{is_writable}
 use Rattle.xc_view.specs.Meaning.{step_words, prop_words, step_value, prop_value_at, is_initial}
 
 abbrev o : List ℕ
@@ -115,3 +116,14 @@ pub lines_of_quiet : view_lines quiet
     ∷ (codes "init" ∷ codes "!" ∷ codes "y" ∷ codes "=" ∷ T ∷ [])
     ∷ (codes "prop" ∷ codes "q" ∷ M ∷ codes "when" ∷ codes "true" ∷ []) ∷ (codes "prop" ∷ codes "p" ∷ T ∷ codes "when" ∷ x ∷ codes "!=" ∷ i ∷ []) ∷ []
 lines_of_quiet = refl
+
+-- y has the values x and 0 like x, so that x is a value and a variable: a comparison of y with x can't be written, the other way round it can
+abbrev taken : ViewValue
+taken = record bob { vars = record { name = x; values = x ∷ o ∷ [] } ∷ record { name = codes "y"; values = x ∷ o ∷ [] } ∷ []; init = tests.Same 0 1; props = []; commands = [] }
+
+pub written : (is_writable bob ≡ true) × (is_writable quiet ≡ true) × (is_writable taken ≡ true) × (is_writable (record taken { init = tests.Same 1 0 }) ≡ false)
+    × (is_writable (record taken { props = record { name = codes "p"; value = T; guard = tests.True } ∷ record { name = codes "p"; value = T; guard = tests.Differ 1 0 } ∷ [] }) ≡ false)
+    × (is_writable (record taken { commands = record { name = codes "go"; value = T; guard = tests.Same 1 0; action = [] } ∷ [] }) ≡ false)
+    × (is_writable (record taken { commands = record { name = codes "go"; value = T; guard = tests.True; action = assigns.Copy 1 0 ∷ [] } ∷ [] }) ≡ false)
+    × (is_writable (record taken { commands = record { name = codes "go"; value = T; guard = tests.True; action = assigns.Copy 0 1 ∷ [] } ∷ [] }) ≡ true)
+written = (refl, refl, refl, refl, refl, refl, refl, refl)

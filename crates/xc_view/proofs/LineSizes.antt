@@ -1,19 +1,14 @@
 -- The tokens of a line are no longer than the line.
-use Rattle.std.proofs.Common.{◌≡◌, ℕ, zero, suc, ◌+◌, ◌-◌, ◌<◌, ◌≤◌, Bool, true, false, not, eqb, ltb, ◌==◌, if◌then◌else◌, ◌&&◌, ◌||◌, List, [], ◌∷◌, ◌++◌, length, take, drop, map, length-append, append_assoc, append-nil, refl, ap, sym, ◌∙◌, subst, inl, inr, ◌⊎◌, arith}
-use Rattle.std.specs.Prelude.{Option, Some, None, slice_range, nat_lt, nat_le}
-use Rattle.std.specs.List.{list_all, list_any}
-use Rattle.std.proofs.lemmas.Bool.{cases_Bool, and_parts, and_from, or_parts, ltb-false, le-leb, ne_eqb}
+use Rattle.std.proofs.Common.{◌≡◌, ℕ, suc, ◌+◌, ◌-◌, ◌<◌, ◌≤◌, Bool, true, false, not, ◌==◌, if◌then◌else◌, ◌&&◌, List, [], ◌∷◌, ◌++◌, length, take, drop, map, length-append, append_assoc, refl, ap, sym, ◌∙◌, subst, inl, inr, arith}
+use Rattle.std.specs.Prelude.{slice_range}
+use Rattle.std.specs.List.{list_all}
+use Rattle.std.proofs.lemmas.Bool.{cases_Bool, and_parts, and_from, or_parts, ne_eqb}
 use Rattle.std.proofs.lemmas.List.{drop_at}
-use Rattle.xc_base.specs.Canonical.{spaced, is_short}
+use Rattle.xc_base.specs.Canonical.{spaced}
 use Rattle.xc_base.specs.Cutting.{token_size}
-use Rattle.xc_base.specs.Formats.{Row}
-use Rattle.xc_base.specs.Lines.{row_of, text_rows}
-use Rattle.xc_base.specs.Text.{lines_of, onto_first, is_blank, is_allowed, joins, joins_next, with_byte, tokens_from, with_line, rows_from, first_fault_from, text_fault, token_text}
+use Rattle.xc_base.specs.Text.{is_blank, joins, joins_next, with_byte, tokens_from, token_text}
 use Rattle.xc_base.specs.Words.{is_word_byte, is_word}
-use Rattle.xc_base.specs.declared.fault.TextFault.{TextFault}
-use Rattle.xc_base.specs.declared.fault.TextFault.TheVariants.{LongFile, BadByte, LongLine}
 use Rattle.xc_base.specs.declared.lines.Token.{Token}
-use Rattle.xc_base.specs.declared.lines.Line.{Line}
 use Rattle.xc_base.proofs.CutTokens.{joined_alike, above_not_blank, above_not_comment, first_token, token_size_ends, token_size_more}
 
 -- the texts of the tokens of a line, wherever it stands

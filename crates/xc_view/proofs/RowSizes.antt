@@ -1,12 +1,11 @@
 -- The rows of a text that has no fault are short.
-use Rattle.std.proofs.Common.{◌≡◌, ℕ, ◌+◌, ◌≤◌, Bool, true, false, not, ◌==◌, nat_lt, if◌then◌else◌, List, [], ◌∷◌, ◌++◌, length, map, length-append, append_assoc, append-nil, Option, Some, None, refl, ap, sym, ◌∙◌, subst, inl, inr, ◌⊎◌, arith}
+use Rattle.std.proofs.Common.{◌≡◌, ℕ, ◌+◌, ◌≤◌, Bool, true, false, not, ◌==◌, nat_lt, if◌then◌else◌, List, [], ◌∷◌, ◌++◌, length, map, length-append, append_assoc, append-nil, Some, None, refl, ap, sym, ◌∙◌, subst, inl, inr, ◌⊎◌, arith}
 use Rattle.std.specs.List.{list_all, list_any}
 use Rattle.std.proofs.lemmas.Bool.{and_from, ltb-false, le-leb, eqb-true}
 use Rattle.xc_base.specs.Canonical.{spaced, is_short}
 use Rattle.xc_base.specs.Formats.{Row}
-use Rattle.xc_base.specs.Lines.{row_of, text_rows}
-use Rattle.xc_base.specs.Text.{lines_of, onto_first, is_allowed, tokens_from, with_line, rows_from, first_fault_from, text_fault, token_text}
-use Rattle.xc_base.specs.declared.fault.TextFault.{TextFault}
+use Rattle.xc_base.specs.Lines.{row_of}
+use Rattle.xc_base.specs.Text.{lines_of, onto_first, is_allowed, tokens_from, with_line, rows_from, first_fault_from, token_text}
 use Rattle.xc_base.specs.declared.fault.TextFault.TheVariants.{LongFile, BadByte, LongLine}
 use Rattle.xc_base.specs.declared.lines.Token.{Token}
 use Rattle.xc_base.specs.declared.lines.Line.{Line}

@@ -5,8 +5,8 @@ ghost use Rattle.xc_view.specs.Drafts.{all_stated, IsFair};
 
 use crate::statement::Statement;
 use std::alloc::Global;
-use xc_base::{List, Memory, Word};
-use xc_expr::{Domain, Vars};
+use xc_base::{List, Memory};
+use xc_expr::{Vars, copy_domain};
 
 /// Faultless statements of a file, with their variables.
 #[derive(Debug, Drop)]
@@ -17,23 +17,11 @@ pub(crate) struct Draft<'a> {
     ghost fair: { IsFair (all_stated statements) },
 }
 
-fn copy_words(alloc: Global, words: &List<Word>) -> Result<List<Word>, Memory>
-    ensures { IfOk result (λ copies. copies ≡ words.now) }
-{
-    let mut copies = List::new(alloc);
-    for word in words.as_slice() {
-        copies.push(word.copy(alloc)?)?;
-    }
-    Ok(copies)
-}
-
 fn push_var(alloc: Global, vars: &mut Vars, s: &Statement) -> Result<(), Memory>
     ensures { OnOk result (vars.new ≡ vars.old ++ vars_of (stated s.now ∷ [])) }
 {
     if let Statement::Var(domain) = s {
-        let name = domain.name.copy(alloc)?;
-        let values = copy_words(alloc, &domain.values)?;
-        vars.push(Domain { name, values })?;
+        vars.push(copy_domain(alloc, domain)?)?;
     }
     Ok(())
 }

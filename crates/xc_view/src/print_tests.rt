@@ -1,18 +1,26 @@
 //! Canonical texts of views, against texts by hand.
 
+ghost use Rattle.std.specs.Prelude.{◌≡◌, true, IfOk, IfSome};
+ghost use Rattle.std.specs.List.{list_all};
+ghost use Rattle.xc_base.specs.Canonical.{is_short};
+ghost use Rattle.xc_view.specs.Printing.{view_lines};
+ghost use Rattle.xc_view.specs.Views.{value_of};
+
 use crate::reader::read;
 use crate::tests::view_told;
 use crate::view::View;
 use std::alloc::Global;
 use std::test::Fail;
-use xc_base::{Stop, cut_lines};
+use xc_base::cut_lines;
 
-fn view_of(alloc: Global, text: &[u8]) -> Result<Option<View>, Fail> {
+// The view of a text. What is printed of it has no fault, since no line of it is longer than the one that was read.
+fn view_of(alloc: Global, text: &[u8]) -> Result<Option<View>, Fail>
+    ensures { IfOk result (λ o. IfSome o (λ v. list_all is_short (view_lines (value_of v)) ≡ true)) }
+{
     let lines = cut_lines(alloc, text, 1_048_576)?;
     match read(alloc, &lines) {
         Ok(view) => Ok(Some(view)),
-        Err(Stop::File(_)) => Ok(None),
-        Err(Stop::Memory) => Ok(None),
+        Err(_) => Ok(None),
     }
 }
 
