@@ -160,15 +160,6 @@ block_is m vars first w depth count row j b same low aligned within size_is row_
           means (is_merged_initial m s) (subst (λ (n : ℕ). IsRight j (list_all (λ v. is_initial_for m.plan s v (viewpoint_at m v)) (range_with_len 0 n))) count_is (are.right s here shares));
     }
 
--- one state alone
-pub one_block : (m : Merge) (first : ℕ) (b : Bool) → first < states_of m.plan → b ≡ is_merged_initial m first → IsBlock m first (record { size = 1; initial = b })
-one_block m first b low e =
-    record {
-      some = omega arith;
-      within = omega arith;
-      same = λ s from to. let same : s ≡ first = omega arith in ap (is_merged_initial m) same ∙ sym e;
-    }
-
 -- filters of ranges whose numbers are all alike
 all_alike : (p : ℕ → Bool) (x n : ℕ) (b : Bool) → ((s : ℕ) → x ≤ s → s < x + n → p s ≡ b) → filter p (range_with_len x n) ≡ cond b (range_with_len x n) []
 all_alike p x zero true h = refl

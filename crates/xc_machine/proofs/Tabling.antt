@@ -37,14 +37,6 @@ use Rattle.xc_machine.proofs.Seeing.{values_few}
 use Rattle.xc_machine.proofs.Sound.{map_parts}
 use Rattle.xc_machine.proofs.Stepping.{map_map, known_are}
 
--- the place of a word among few values is small
-pub place_few : (values : List (List ℕ)) (word : List ℕ) → length values ≤ 16 → place_of values word < 256
-place_few values word h = omega (arith, prefix_len-le-length (λ x. not (bytes_eq word x)) values)
-
--- a variable of a map has few values
-pub map_values_few : (m : MapValue) (x : ℕ) → maps.is_sound m ≡ true → x < length m.vars → length (values_at m.vars x) ≤ 16
-map_values_few m x h low = values_few m.vars x (map_parts m h).fit low
-
 -- the line that feeds a variable reads one of the map's
 pub line_in : (m : MapValue) (v : ℕ) (name : List ℕ) (line : SendLine) → maps.is_sound m ≡ true → line_for m v name ≡ Some line → line.from < length m.vars
 line_in m v name line h e =
@@ -107,9 +99,6 @@ feeds_more plan v vars feeds x d feed low is are one =
           ];
     }
 
-pub no_feeds : (plan : MapValue) (v : ℕ) (vars : List Domain) → AreFeeds plan v (take 0 vars) []
-no_feeds plan v vars = record { count = refl; fed = λ k e g under. absurd (omega arith) }
-
 -- what is told by a line
 pub telling_some : (plan : MapValue) (v k : ℕ) (p : Viewpoint) (lines : List PropLine) (line : Tell) (fixed : Option ℕ) (row : List Bool) → line_of plan v k ≡ Some line → map prop_value lines ≡ p.view.props → fixed ≡ constant_told p line.told → row ≡ map (counts_of line.told) lines → IsTelling plan v p k (record { fixed = fixed; counts = row })
 telling_some plan v k p lines line fixed row e is f c =
@@ -119,26 +108,6 @@ telling_some plan v k p lines line fixed row e is f c =
       counts_are =
           c ∙ sym (map_map (λ (l : PropValue). counts_for l line.told) prop_value lines) ∙ ap (map (λ (l : PropValue). counts_for l line.told)) is ∙ ap (λ (o : Option Tell). map (λ (l : PropValue). counts_by l o) p.view.props) (sym e);
     }
-
-pub telling_none : (plan : MapValue) (v k : ℕ) (p : Viewpoint) (telling : Telling) → line_of plan v k ≡ None → is_some (line_of plan v k) ≡ true → IsTelling plan v p k telling
-telling_none plan v k p telling e some = absurd (true≢false (sym some ∙ ap is_some e))
-
--- one more telling
-pub tellings_more : (plan : MapValue) (v : ℕ) (p : Viewpoint) (k : ℕ) (tellings : List Telling) (telling : Telling) → AreTellings plan v p k tellings → IsTelling plan v p k telling → AreTellings plan v p (k + 1) (tellings ++ telling ∷ [])
-tellings_more plan v p k tellings telling are one =
-    record {
-      count = length_push tellings telling ∙ ap (λ (n : ℕ). n + 1) are.count;
-      told = λ i g under there.
-          elim (cases_eq i k) [
-            | inl same ↦
-                let g_same : telling ≡ g = sym (get_or_push tellings telling g k are.count) ∙ ap (λ (n : ℕ). get_or (tellings ++ telling ∷ []) n g) (sym same) ∙ sym there in
-                subst (λ (j : ℕ). IsTelling plan v p j g) (sym same) (subst (IsTelling plan v p k) g_same one)
-            | inr apart ↦ are.told i g (omega arith) (there ∙ get_or_append_left tellings (telling ∷ []) g i (omega (arith, are.count)))
-          ];
-    }
-
-pub no_tellings : (plan : MapValue) (v : ℕ) (p : Viewpoint) → AreTellings plan v p 0 []
-no_tellings plan v p = record { count = refl; told = λ i g under. absurd (omega arith) }
 
 -- the elements of commands and lines
 pub weights_are : (p : Viewpoint) (commands : List Command) (codes : List ℕ) → map command_value commands ≡ p.view.commands → codes ≡ map (command_code p.lattice.names) commands → codes ≡ map (weight p) p.view.commands

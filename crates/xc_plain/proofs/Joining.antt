@@ -46,10 +46,6 @@ few_step o f successors i sum next whole low e before =
 pub joined_at : (o : Operations) (rows : List Row) (f : ℕ → ℕ) (s x : ℕ) (row : Row) → s < length rows → row ≡ get_or rows s row → x ≡ row_joined o f row → x ≡ next_by o rows f s
 joined_at o rows f s x row low e value = value ∙ ap (row_joined o f) (e ∙ get_or_default rows s row (Each []) low)
 
--- no code
-pub no_row : (size : ℕ) → IsRow size 0 []
-no_row size = record { count = refl; range = λ s low. absurd (omega arith) }
-
 -- each code of a row with one code more is an element
 more_below : (size k x : ℕ) (row : List ℕ) → IsRow size k row → x < size → (s : ℕ) → s < k + 1 → ((s < k) ⊎ (k ≤ s)) → slice_index (row ++ x ∷ []) s < size
 more_below size k x row is low s within (inl before) = rw (get_or_append_left row (x ∷ []) 0 s (omega (arith, is.count))) (is.range s before)

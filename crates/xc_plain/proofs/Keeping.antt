@@ -113,12 +113,6 @@ row_of_few p q n m relation row read few e same sized is made are told small =
           ∙ (ap (λ (xs : List ℕ). weighed_from (product q) (slice_index xs) f 0 m) same ∙ (ap (weighed_from (product q) (slice_index row) f 0) (sized ∙ ap length same) ∙ same_relation (product q) n relation f row is.count made));
     }
 
--- a row that is read, in the words of the algebra
-pub row_for : (p q : List LatticeData) (n m : ℕ) (row read : List ℕ) → p ≡ q → read ≡ row → m ≡ length read → IsRow (product q).size n row → IsRow (product p).size m read
-row_for p q n m row read e same sized is =
-    let count : n ≡ m = sym (sized ∙ (ap length same ∙ is.count)) in
-    subst (λ (k : ℕ). IsRow (product p).size k read) count (subst (λ (xs : List ℕ). IsRow (product p).size n xs) (sym same) (subst (λ (parts : List LatticeData). IsRow (product parts).size n row) (sym e) is))
-
 -- the rows of the first states, and of one state more
 row_kept : (o : Operations) (n : ℕ) (relation : ℕ → ℕ → ℕ) (rows : List Row) (row : Row) → ((s : ℕ) → s < length rows → IsRowOf o n (relation s) (row_at rows s)) → IsRowOf o n (relation (length rows)) row
     → (s : ℕ) → s < length rows + 1 → ((s < length rows) ⊎ (length rows ≤ s)) → IsRowOf o n (relation s) (row_at (rows ++ row ∷ []) s)

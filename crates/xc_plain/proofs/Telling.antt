@@ -46,20 +46,12 @@ pub row_in_parts : (p q : List LatticeData) (n : ℕ) (row other : List ℕ) →
 row_in_parts p q n row other e is there =
     subst (λ (k : ℕ). IsRow (product p).size k row) (sym there.count) (subst (λ (parts : List LatticeData). IsRow (product parts).size n row) (sym e) is)
 
-pub row_of_states : (frame : Frame) (p : List LatticeData) (rows : List Row) (row : List ℕ) → p ≡ frame.parts → AreRowsOf frame rows → IsRow (product frame.parts).size frame.states row → IsRow (product p).size (length rows) row
-row_of_states frame p rows row e are is =
-    subst (λ (k : ℕ). IsRow (product p).size k row) (sym are.count) (subst (λ (parts : List LatticeData). IsRow (product parts).size frame.states row) (sym e) is)
-
 pub safe_rows : (frame : Frame) (rows : List Row) → AreRowsOf frame rows → AreSafe (product frame.parts).size frame.states rows
 safe_rows frame rows are = record { count = are.count; each = λ s low. (are.each s low).safe }
 
 pub safe_in_parts : (frame : Frame) (p : List LatticeData) (rows : List Row) (n : ℕ) → p ≡ frame.parts → AreRowsOf frame rows → n ≡ frame.states → AreSafe (product p).size n rows
 safe_in_parts frame p rows n e are count =
     subst (λ (k : ℕ). AreSafe (product p).size k rows) (sym count) (subst (λ (parts : List LatticeData). AreSafe (product parts).size frame.states rows) (sym e) (safe_rows frame rows are))
-
--- what a row tells, in the words of the frame
-pub told_row : (p q : List LatticeData) (m n : ℕ) (row : List ℕ) → p ≡ q → m ≡ n → IsRow (product p).size m row → IsRow (product q).size n row
-told_row p q m n row e count is = subst (λ (k : ℕ). IsRow (product q).size k row) count (subst (λ (parts : List LatticeData). IsRow (product parts).size m row) e is)
 
 pub told_value : (p q : List LatticeData) (m n : ℕ) (f : Operations → ℕ → ℕ) (row : List ℕ) → p ≡ q → m ≡ n → row ≡ values m (f (product p)) → Agree n (slice_index row) (f (product q))
 told_value p q m n f row e count made =
@@ -69,19 +61,6 @@ told_value p q m n f row e count made =
 pub next_told : (frame : Frame) (is : IsFrame frame) (rows : List Row) → AreRowsOf frame rows → (f : ℕ → ℕ) → IsFunction (product frame.parts) frame.states f → Agree frame.states (next_by (product frame.parts) rows f) (some_next frame f)
 unfolding weighed_from
 next_told frame is rows are f within s low = (are.each s low).told f within ∙ sym (next_joined frame is f s low within)
-
--- a node that is no fixpoint, by its one row
-pub plain_told : (frame : Frame) (kind : Kind) (a b : ℕ → ℕ) (row : List ℕ) (rows : List (List ℕ)) → rows ≡ row ∷ [] → is_least kind ≡ false → is_greatest kind ≡ false → IsRow (product frame.parts).size frame.states row
-    → Agree frame.states (slice_index row) (step_at frame kind a b (slice_index row)) → TellsNode frame kind a b rows
-plain_told frame kind a b row rows e least greatest is same =
-    rw e (record {
-      some = omega arith;
-      few = omega arith;
-      shape = record { each = λ k low. let first : k ≡ 0 = omega arith in rw first is };
-      denotes = record { fixpoint = record { in_range = is.range; fixed = same }; least = λ h. absurd (cc); greatest = λ h. absurd (cc) };
-      settled = record { rising = λ h. absurd (cc); falling = λ h. absurd (cc); none = λ h. refl };
-      iterates = λ k low. let first : k ≡ 0 = omega arith in rw first (record { rising = λ h. absurd (cc); falling = λ h. absurd (cc); none = λ h s here. refl });
-    })
 
 -- a fixpoint, by its rounds
 module _ (frame : Frame) (is : IsFrame frame) (up : Bool) (step : Step) (kind : Kind) (a b : ℕ → ℕ) (monotone : IsMonotone (product frame.parts) frame.states step)
