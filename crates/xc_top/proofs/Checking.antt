@@ -18,14 +18,27 @@ use Rattle.xc_merge.specs.Projections.{states_of}
 use Rattle.xc_merge.specs.Faults.{merge_fault}
 use Rattle.xc_merge.specs.declared.fault.MergeFault.{MergeFault}
 use Rattle.xc_top.specs.Texts.{states_line, merge_line}
-use Rattle.xc_top.specs.Checks.{signature_of, state_limit}
+use Rattle.xc_top.specs.Checks.{state_limit}
+use Rattle.xc_report.specs.Reports.{signature_of}
 use Rattle.xc_top.specs.Outcomes.{Outcome, Refusal, Event, Ends, Cuts, Merges, Reports, Evaluates, states_excess, FormulaTasks, LoadsViewpoint, LoadsViewpoints, files_of}
 use Rattle.xc_top.specs.Outcomes.ReadsFormulas.{faulty as formulas_faulty, accepted as formulas_accepted}
-use Rattle.xc_top.specs.Working.{ComesTo, Comes, CountsOn, IsCut, IsCutHalt, IsHalted, IsMergeRefusal, IsPrepared, IsRefusalHalt, IsFaultRefusal, IsViewpoint, Stops, nothing, outcome_of}
+use Rattle.xc_top.specs.Writing.{AreGiven}
+use Rattle.xc_top.specs.Working.{ComesTo, Comes, CountsOn, IsCut, IsCutHalt, IsHalted, IsMergeRefusal, IsPrepared, IsRefusalHalt, IsFaultRefusal, IsReport, IsViewpoint, Stops, nothing}
+use Rattle.xc_merge.specs.Merges.{viewpoint_at}
+use Rattle.xc_merge.specs.MergedFrames.{merged_frame}
+use Rattle.xc_machine.specs.Machines.{merge_of}
+use Rattle.xc_machine.specs.Tabled.{IsGood as IsFit}
+use Rattle.xc_machine.specs.declared.machine.Machine.{Machine}
+use Rattle.xc_ctl.specs.Frames.{IsFrame}
+use Rattle.xc_ctl.specs.Formulas.{nodes_in}
+use Rattle.xc_ctl.specs.declared.formula.Formulas.{Formulas}
+use Rattle.xc_report.proofs.Lattices.{some_heights}
+use Rattle.xc_report.proofs.Machined.{are_named}
+use Rattle.xc_top.proofs.Reports.{some_report}
 use Rattle.xc_top.specs.declared.answer.Answer.{Answer}
 use Rattle.xc_top.specs.declared.halt.Halt.{Halt}
 use Rattle.xc_top.specs.declared.halt.Halt.TheVariants.{Words, Refused, ReadFault, WriteFault, Memory}
-use Rattle.xc_top.proofs.Courses.{Course, prepared_by, comes_prepared, cut_stops, cut_comes_to, refused_comes}
+use Rattle.xc_top.proofs.Courses.{Course, stands_by, prepared_by, comes_prepared, cut_stops, cut_comes_to, refused_comes}
 use Rattle.xc_top.proofs.Opening.{viewpoint_halts, viewpoint_goes_on}
 
 -- the formulas' file
@@ -39,7 +52,7 @@ module _ (m : Merge) (formulas bytes : List ℕ) where
       (refused_comes (FormulaTasks m formulas rows) (IsFaultRefusal (formula_format (signature_of m)) formulas rows) halt (λ line r moments. formulas_faulty r.fault r.first (ap (λ x. Ends (Refusal x)) r.told)) stopped)
 
   evaluated_all : (rows : List Row) (tables : List (List Kind)) (result : Result Answer Halt) → IsAccepted (formula_format (signature_of m)) rows tables → ComesTo (λ outcome. Evaluates m tables (Ends outcome)) result → Comes (FormulaTasks m formulas rows) result
-  evaluated_all rows tables (Ok answer) accepted h = λ moments. formulas_accepted tables accepted h
+  evaluated_all rows tables (Ok answer) accepted h = stands_by (λ o. Evaluates m tables (Ends o)) (λ o. (moments : ℕ → List File) → FormulaTasks m formulas rows moments (Ends o)) answer (λ o e moments. formulas_accepted tables accepted e) h
   evaluated_all rows tables (Err (Refused line)) accepted h = λ moments. formulas_accepted tables accepted h
   evaluated_all rows tables (Err Memory) accepted h = tt
   evaluated_all rows tables (Err Words) accepted h = h
@@ -63,13 +76,19 @@ too_many m tables line many is = rw (many_states m many) (ap (λ x. Ends (Refusa
 few_on : (m : Merge) (tables : List (List Kind)) (outcome : Outcome) → states_of m.plan ≤ state_limit → Reports m tables outcome → Evaluates m tables (Ends outcome)
 few_on m tables outcome few h = rw (few_states m few) h
 
-pub evaluated : (m : Merge) (tables : List (List Kind)) (result : Result Answer Halt) → states_of m.plan ≤ state_limit → ComesTo (Reports m tables) result → ComesTo (λ outcome. Evaluates m tables (Ends outcome)) result
-evaluated m tables (Ok answer) few h = few_on m tables (outcome_of answer) few h
-evaluated m tables (Err (Refused line)) few h = few_on m tables (Refusal (string_bytes line)) few h
-evaluated m tables (Err Memory) few h = tt
-evaluated m tables (Err Words) few h = h
-evaluated m tables (Err (ReadFault line)) few h = h
-evaluated m tables (Err WriteFault) few h = h
+-- a report on a machine of few states
+pub reported : (machine : Machine) (formulas : Formulas) → states_of (merge_of machine).plan ≤ state_limit → AreGiven (merge_of machine) (nodes_in formulas) → IsFrame (merged_frame (merge_of machine))
+    → ((v : ℕ) → v < length (merge_of machine).viewpoints → IsFit (viewpoint_at (merge_of machine) v).lattice) → IsReport (λ outcome. Evaluates (merge_of machine) (nodes_in formulas) (Ends outcome)) machine formulas
+reported machine formulas few given framed fit =
+    let m = merge_of machine in
+    let heights = some_heights m (are_named m fit) in
+    let end = some_report m (nodes_in formulas) (record { framed = framed; ordered = given.ordered; within = given.within }) heights.0 heights.1 in
+    record {
+      ready = record { few_states = few; given = given };
+      outcome = end.0;
+      reports = end.1;
+      holds = few_on m (nodes_in formulas) end.0 few end.1;
+    }
 
 -- viewpoints that do not merge
 module _ (m : Merge) (next : Course) where

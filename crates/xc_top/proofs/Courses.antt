@@ -15,9 +15,11 @@ use Rattle.xc_base.specs.Shelves.{Told, Shelved, IsLoaded, held, HasRisen}
 use Rattle.xc_base.specs.declared.shelf.File.{File}
 use Rattle.xc_top.specs.Headline.{FailedOnce, KeepsOrFails}
 use Rattle.xc_top.specs.Texts.{file_line, read_line}
-use Rattle.xc_top.specs.Outcomes.{Outcome, Absent, Refusal, Event, Ends, Loading, always, rest, file_limit, Cuts, Opens}
-use Rattle.xc_top.specs.Working.{AddsFailed, Comes, EndsWith, IsHalted, IsLoadHalt, IsPrepared, CountsOn, IsCut, IsCutHalt, IsRefusalHalt, Stops, outcome_of}
+use Rattle.xc_top.specs.Outcomes.{Outcome, Absent, Refusal, Served, Event, Ends, Loading, always, rest, file_limit, Cuts, Opens}
+use Rattle.xc_top.specs.Writing.{passed_status}
+use Rattle.xc_top.specs.Working.{AddsFailed, Comes, EndsWith, IsHalted, IsLoadHalt, IsPrepared, CountsOn, IsCut, IsCutHalt, IsRefusalHalt, StandsFor, Stops}
 use Rattle.xc_top.specs.declared.answer.Answer.{Answer}
+use Rattle.xc_top.specs.declared.answer.Answer.TheVariants.{Text, Report}
 use Rattle.xc_top.specs.declared.halt.Halt.{Halt}
 use Rattle.xc_top.specs.declared.halt.Halt.TheVariants.{Words, Refused, ReadFault, WriteFault, Memory}
 
@@ -58,9 +60,14 @@ keeps_by : (P Q : Course) (shelf shelf_after : Shelved) → ((m : ℕ → List F
 keeps_by P Q shelf shelf_after f (inl same) = inl same
 keeps_by P Q shelf shelf_after f (inr h) = inr (fails_by P Q shelf shelf_after (λ name. Unit {0}) f h)
 
+-- what holds of each outcome of which something else holds
+pub stands_by : (P Q : Outcome → Type 0) (answer : Answer) → ((o : Outcome) → P o → Q o) → StandsFor P answer → StandsFor Q answer
+stands_by P Q (Text passed text) f h = f (Served (passed_status passed) text) h
+stands_by P Q (Report machine formulas) f h = record { ready = h.ready; outcome = h.outcome; reports = h.reports; holds = f h.outcome h.holds }
+
 -- what a course comes to in whatever way, it comes to
 pub comes_prepared : (P : Course) (shelf shelf_after : Shelved) (result : Result Answer Halt) → shelf_after.told ≡ shelf.told → Comes P result → IsPrepared P shelf shelf_after result
-comes_prepared P shelf shelf_after (Ok answer) same comes = ends_always P shelf (outcome_of answer) comes
+comes_prepared P shelf shelf_after (Ok answer) same comes = stands_by (λ o. (m : ℕ → List File) → P m (Ends o)) (EndsWith P shelf) answer (ends_always P shelf) comes
 comes_prepared P shelf shelf_after (Err (Refused line)) same comes = ends_always P shelf (Refusal (string_bytes line)) comes
 comes_prepared P shelf shelf_after (Err Memory) same comes = inl same
 comes_prepared P shelf shelf_after (Err Words) same comes = comes
@@ -69,7 +76,7 @@ comes_prepared P shelf shelf_after (Err WriteFault) same comes = comes
 
 -- and where one course is another, so is what became of it
 pub prepared_by : (P Q : Course) (shelf shelf_after : Shelved) (result : Result Answer Halt) → ((m : ℕ → List File) (e : Event) → P m e → Q m e) → IsPrepared P shelf shelf_after result → IsPrepared Q shelf shelf_after result
-prepared_by P Q shelf shelf_after (Ok answer) f h = ends_by P Q shelf (outcome_of answer) f h
+prepared_by P Q shelf shelf_after (Ok answer) f h = stands_by (EndsWith P shelf) (EndsWith Q shelf) answer (λ o. ends_by P Q shelf o f) h
 prepared_by P Q shelf shelf_after (Err (Refused line)) f h = ends_by P Q shelf (Refusal (string_bytes line)) f h
 prepared_by P Q shelf shelf_after (Err (ReadFault line)) f h = (h.0, fails_by P Q shelf shelf_after (λ name. string_bytes line ≡ read_line name) f h.1)
 prepared_by P Q shelf shelf_after (Err Memory) f h = keeps_by P Q shelf shelf_after f h
@@ -98,7 +105,7 @@ module _ (name bytes : List ℕ) (next : List Row → Course) where
   cut_goes_on rows shelf shelf_after result cut h = prepared_by (next rows) (Cuts name next bytes) shelf shelf_after result (cut_on rows cut) h
 
   pub cut_comes_to : (rows : List Row) (result : Result Answer Halt) → IsCut bytes rows → Comes (next rows) result → Comes (Cuts name next bytes) result
-  cut_comes_to rows (Ok answer) cut h = λ m. cut_on rows cut m (Ends (outcome_of answer)) (h m)
+  cut_comes_to rows (Ok answer) cut h = stands_by (λ o. (m : ℕ → List File) → next rows m (Ends o)) (λ o. (m : ℕ → List File) → Cuts name next bytes m (Ends o)) answer (λ o c m. cut_on rows cut m (Ends o) (c m)) h
   cut_comes_to rows (Err (Refused line)) cut h = λ m. cut_on rows cut m (Ends (Refusal (string_bytes line))) (h m)
   cut_comes_to rows (Err Memory) cut h = tt
   cut_comes_to rows (Err Words) cut h = h
@@ -136,7 +143,7 @@ module _ (P : Course) (before shelf shelf_after : Shelved) (same : shelf.told �
   keeps_before (inr h) = inr (fails_before (λ n. Unit {0}) h)
 
   pub from_before : (result : Result Answer Halt) → before.faults ≤ shelf.faults → IsPrepared P shelf shelf_after result → IsPrepared P before shelf_after result
-  from_before (Ok answer) counts h = ends_before (outcome_of answer) h
+  from_before (Ok answer) counts h = stands_by (EndsWith P shelf) (EndsWith P before) answer ends_before h
   from_before (Err (Refused line)) counts h = ends_before (Refusal (string_bytes line)) h
   from_before (Err (ReadFault line)) counts h = (risen_on before.faults shelf.faults shelf_after.faults counts h.0, fails_before (λ n. string_bytes line ≡ read_line n) h.1)
   from_before (Err Memory) counts h = keeps_before h
@@ -202,7 +209,7 @@ module _ (name : List ℕ) (next : List Row → Course) where
   keeps_on bytes shelf shelf_after loaded (inr h) = inr (fails_on bytes shelf shelf_after (λ n. Unit {0}) loaded h)
 
   on_shelf : (bytes : List ℕ) (shelf shelf_after : Shelved) (result : Result Answer Halt) → IsLoaded shelf.told name file_limit bytes → IsPrepared (Cuts name next bytes) shelf shelf_after result → IsPrepared (Opens name next) shelf shelf_after result
-  on_shelf bytes shelf shelf_after (Ok answer) loaded h = ends_on bytes shelf (outcome_of answer) loaded h
+  on_shelf bytes shelf shelf_after (Ok answer) loaded h = stands_by (EndsWith (Cuts name next bytes) shelf) (EndsWith (Opens name next) shelf) answer (λ o. ends_on bytes shelf o loaded) h
   on_shelf bytes shelf shelf_after (Err (Refused line)) loaded h = ends_on bytes shelf (Refusal (string_bytes line)) loaded h
   on_shelf bytes shelf shelf_after (Err (ReadFault line)) loaded h = (h.0, fails_on bytes shelf shelf_after (λ n. string_bytes line ≡ read_line n) loaded h.1)
   on_shelf bytes shelf shelf_after (Err Memory) loaded h = keeps_on bytes shelf shelf_after loaded h

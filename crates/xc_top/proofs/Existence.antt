@@ -11,16 +11,20 @@ use Rattle.xc_lattice.specs.LatticeFiles.{LatticeValue, Verdict, Faulty, Unlawfu
 use Rattle.xc_lattice.proofs.Existence.{each_has_verdict}
 use Rattle.xc_top.specs.Laws.{RequestsHaveOutcomes, OutcomesAreUnique}
 use Rattle.xc_top.proofs.Outcomes.{course_once}
-use Rattle.xc_top.specs.Requests.{Request, LatticeOf, CheckOf, request_of}
+use Rattle.xc_base.specs.Canonical.{canonical}
+use Rattle.xc_lattice.specs.Printed.{lattice_lines}
+use Rattle.xc_view.specs.Printing.{view_lines}
+use Rattle.xc_sigmap.specs.Printing.{map_lines}
+use Rattle.xc_top.specs.Requests.{Request, LatticeOf, CheckOf, ShowOf, ShowKind, LatticeFile, ViewFile, MapFile, request_of}
 use Rattle.xc_top.specs.Texts.{file_line, lattice_text, broken_text, broken_line, merge_line, states_line}
-use Rattle.xc_top.specs.Checks.{signature_of}
-use Rattle.xc_top.specs.Outcomes.{Outcome, Absent, Refusal, Served, Event, Ends, Ending, always, rest, file_limit, JudgesLattice, Opens, LoadsViewpoint, LoadsViewpoints, ReadsMap, ReadsView, ReadsLattice, Reports, states_excess, FormulaTasks, MergeTasks, ViewpointTasks, files_of, IsCourse}
+use Rattle.xc_report.specs.Reports.{signature_of}
+use Rattle.xc_top.specs.Outcomes.{Outcome, Absent, Refusal, Served, Event, Ends, Ending, always, rest, file_limit, JudgesLattice, Opens, LoadsViewpoint, LoadsViewpoints, ReadsMap, ReadsView, ReadsLattice, Reports, states_excess, FormulaTasks, MergeTasks, ViewpointTasks, files_of, Shows, IsCourse}
 use Rattle.xc_top.specs.Outcomes.ReadsMap.{faulty as map_faulty, accepted as map_accepted}
 use Rattle.xc_top.specs.Outcomes.ReadsView.{faulty as view_faulty, accepted as view_accepted}
 use Rattle.xc_top.specs.Outcomes.ReadsFormulas.{faulty as formulas_faulty, accepted as formulas_accepted}
 use Rattle.xc_top.proofs.Courses.{Course}
-use Rattle.xc_top.proofs.Lattices.{IsNamed, AreNamed, named_more, file_is_named, lattice_height, some_heights}
-use Rattle.xc_top.proofs.Framed.{IsGood, accepted_is_sound}
+use Rattle.xc_report.proofs.Lattices.{IsNamed, AreNamed, named_more, file_is_named, lattice_height, some_heights}
+use Rattle.xc_report.proofs.Framed.{IsGood, accepted_is_sound}
 use Rattle.xc_top.proofs.Reports.{AreFormulas, good_formulas, some_report}
 use Rattle.xc_view.specs.ViewFiles.{ViewValue, view_format}
 use Rattle.xc_view.proofs.Verdicts.{files_are_judged as each_view_is_judged}
@@ -123,9 +127,24 @@ some_check sigmap formulas m =
     (formula_files_are_judged (signature_of (merge_of plan all)) last)))))
     (each_map_is_judged rows))
 
+some_shown : (lines : List (List (List ℕ))) (m : ℕ → List File) → Some_end (Shows lines m)
+some_shown lines m = (Served Done (canonical lines), refl)
+
+some_show : (kind : ShowKind) (name : List ℕ) (m : ℕ → List File) → Some_end (IsCourse (ShowOf kind name) m)
+some_show LatticeFile name m =
+    some_opened name (ReadsLattice name (λ l. Shows (lattice_lines l))) m
+    (λ rows. let verdict = each_has_verdict rows in some_lattice name (λ l. Shows (lattice_lines l)) rows (rest m) (λ l is. some_shown (lattice_lines l) (rest m)) verdict.0 verdict.1)
+some_show ViewFile name m =
+    some_opened name (ReadsView name (λ v. Shows (view_lines v))) m
+    (λ rows. some_view name (λ v. Shows (view_lines v)) rows (rest m) (λ v. some_shown (view_lines v) (rest m)) (each_view_is_judged rows))
+some_show MapFile name m =
+    some_opened name (ReadsMap name (λ plan. Shows (map_lines plan))) m
+    (λ rows. some_map name (λ plan. Shows (map_lines plan)) rows (rest m) (λ plan accepted. some_shown (map_lines plan) (rest m)) (each_map_is_judged rows))
+
 pub some_course : (request : Request) (m : ℕ → List File) → Some_end (IsCourse request m)
 some_course (LatticeOf name) m = some_opened name (λ rows moments. Ending (JudgesLattice name rows)) m (λ rows. some_judgement name rows)
 some_course (CheckOf sigmap formulas) m = some_check sigmap formulas m
+some_course (ShowOf kind name) m = some_show kind name m
 
 pub requests_have_outcomes : RequestsHaveOutcomes
 requests_have_outcomes words request files e =

@@ -4,24 +4,32 @@ use Rattle.std.proofs.Common.{◌≡◌, ℕ, List, [], ◌∷◌, ◌++◌, Som
 use Rattle.xc_theory.specs.Bounds.{first_meet, first_join}
 use Rattle.xc_theory.proofs.Facts.{two, chain}
 use Rattle.xc_expr.specs.Tests as tests
-use Rattle.xc_lattice.specs.LatticeFiles.{LatticeValue}
+use Rattle.xc_base.specs.Canonical.{canonical, spaced}
+use Rattle.xc_base.specs.Formats.{Row, IsAccepted}
+use Rattle.xc_base.specs.declared.shelf.File.{File}
+use Rattle.xc_lattice.specs.LatticeFiles.{LatticeValue, Unlawful, Lawful, IsVerdict}
 use Rattle.xc_lattice.specs.declared.law.Law.TheVariants.{Distributive, Antisymmetry}
-use Rattle.xc_view.specs.ViewFiles.{ViewValue}
+use Rattle.xc_view.specs.ViewFiles.{ViewValue, view_format}
+use Rattle.xc_sigmap.specs.MapFiles.{map_format}
+use Rattle.xc_top.specs.declared.status.Status.TheVariants.{Done}
 use Rattle.xc_merge.specs.Merges.{Merge}
 use Rattle.xc_merge.specs.MergedFrames.{initials_of}
 use Rattle.xc_merge.specs.declared.fault.MergeFault.TheVariants.{UnknownValue, UnknownName, NotTotal, Elements, NoInitial, Initial}
 use Rattle.xc_alg.specs.Products.{product}
 use Rattle.xc_ctl.specs.Rounds.{RoundsTable}
 use Rattle.xc_ctl.specs.declared.kind.Kind.TheVariants.{Atom, Ex}
-use Rattle.xc_top.specs.Requests.{request_of, LatticeOf, CheckOf}
+use Rattle.xc_top.specs.Requests.{request_of, LatticeOf, CheckOf, ShowOf, LatticeFile, ViewFile, MapFile}
 use Rattle.xc_top.specs.Texts.{lattice_text, broken_text, words_line, file_line, broken_line, merge_line, states_line, read_line, write_line, memory_line}
-use Rattle.xc_top.specs.Outcomes.{files_of}
-use Rattle.xc_top.specs.Checks.{signature_of, map_text, value_text, block_text, rounds_text}
+use Rattle.xc_top.specs.Outcomes.{Ends, Refusal, Served, files_of, ShowTasks}
+use Rattle.xc_top.specs.Outcomes.ReadsMap.{accepted as map_accepted}
+use Rattle.xc_top.specs.Outcomes.ReadsView.{accepted as view_accepted}
 
 -- the requests, and words that are none
 pub requests : (request_of (codes "lattice" ∷ codes "a" ∷ []) ≡ Some (LatticeOf (codes "a"))) × (request_of (codes "check" ∷ codes "a" ∷ codes "b" ∷ []) ≡ Some (CheckOf (codes "a") (codes "b")))
+    × (request_of (codes "show" ∷ codes "lattice" ∷ codes "a" ∷ []) ≡ Some (ShowOf LatticeFile (codes "a"))) × (request_of (codes "show" ∷ codes "view" ∷ codes "map" ∷ []) ≡ Some (ShowOf ViewFile (codes "map"))) × (request_of (codes "show" ∷ codes "map" ∷ codes "view" ∷ []) ≡ Some (ShowOf MapFile (codes "view")))
+    × (request_of (codes "show" ∷ codes "guard" ∷ codes "a" ∷ []) ≡ None) × (request_of (codes "view" ∷ codes "show" ∷ codes "a" ∷ []) ≡ None) × (request_of (codes "show" ∷ codes "view" ∷ []) ≡ None) × (request_of (codes "show" ∷ codes "view" ∷ codes "a" ∷ codes "b" ∷ []) ≡ None)
     × (request_of [] ≡ None) × (request_of (codes "check" ∷ codes "a" ∷ []) ≡ None) × (request_of (codes "lattice" ∷ codes "a" ∷ codes "b" ∷ []) ≡ None) × (request_of (codes "Lattice" ∷ codes "a" ∷ []) ≡ None)
-requests = (refl, refl, refl, refl, refl, refl)
+requests = (refl, refl, refl, refl, refl, refl, refl, refl, refl, refl, refl, refl, refl)
 
 abbrev lines : List ℕ → List ℕ
 lines text = text ++ 10 ∷ []
@@ -68,19 +76,37 @@ pair =
       viewpoints = record { view = seen; lattice = of_two } ∷ record { view = seen; lattice = of_chain } ∷ [];
     }
 
--- a table of two nodes, with the value 4 everywhere, which is T,M
-abbrev told : RoundsTable
-told = record { states = 2; nodes = 2; at = λ i s. 4; rounds = λ i. 0; round_at = λ i k s. 4 }
-
--- the files of its viewpoints, its signature and the texts of a check of it
+-- the files of its viewpoints
 pub files_of_pair : files_of pair.plan ≡ codes "a.view" ∷ codes "b.view" ∷ []
 files_of_pair = refl
 
-pub signature_of_pair : ((signature_of pair).top ≡ 5) × ((signature_of pair).bottom ≡ 0) × ((signature_of pair).props ≡ codes "p" ∷ [])
-unfolding first_meet first_join product
-signature_of_pair = (refl, refl, refl)
+-- what is shown of files that say the lattice of three elements, the view and the map
+abbrev chain_shown : List ℕ
+chain_shown =
+    lines (codes "lattice chain") ++ lines (codes "elements F M T") ++ lines (codes "below F M") ++ lines (codes "below F T") ++ lines (codes "below M T")
+    ++ lines (codes "not F T") ++ lines (codes "not M M") ++ lines (codes "not T F")
 
-pub check_lines : (map_text pair 3 ≡ lines (codes "map pair states " ++ decimal 2 ++ codes " elements " ++ decimal 6 ++ codes " height " ++ decimal 3 ++ codes " initial " ++ decimal 1)) × (value_text pair (λ s. 4) 0 ≡ lines (codes "value " ++ decimal 0 ++ codes " x=0" ++ 32 ∷ 84 ∷ 44 ∷ 77 ∷ []))
-    × (block_text pair 1 (Atom 0 ∷ Ex 0 ∷ []) told ≡ lines (codes "formula " ++ decimal 1) ++ [] ++ (lines (codes "value " ++ decimal 0 ++ codes " x=0" ++ 32 ∷ 84 ∷ 44 ∷ 77 ∷ []) ++ [])) × (rounds_text 2 3 (Some (codes "EU")) ≡ lines (codes "rounds " ++ decimal 2 ++ 32 ∷ codes "EU" ++ 32 ∷ decimal 3))
-unfolding initials_of product
-check_lines = (refl, refl, refl, refl)
+abbrev seen_shown : List ℕ
+seen_shown = lines (codes "view seen") ++ lines (codes "lattice x.lat") ++ lines (codes "var x 0 1") ++ lines (codes "init x=0")
+
+abbrev pair_shown : List ℕ
+pair_shown =
+    lines (codes "map pair") ++ lines (codes "use ann a.view") ++ lines (codes "use ben b.view") ++ lines (codes "var x 0 1") ++ lines (codes "prop p") ++ lines (codes "send ann x x")
+    ++ lines (codes "send ben x x")
+
+module _ (name : List ℕ) (rows : List Row) (moments : ℕ → List File) where
+  pub lattice_shown : IsVerdict rows (Lawful of_chain) → ShowTasks LatticeFile name rows moments (Ends (Served Done chain_shown))
+  unfolding canonical spaced
+  lattice_shown is = record { verdict = Lawful of_chain; judged = is; comes = refl }
+
+  -- a lattice that breaks a law is refused, and not shown
+  pub broken_not_shown : IsVerdict rows (Unlawful Distributive (codes "a" ∷ codes "b" ∷ codes "c" ∷ [])) → ShowTasks LatticeFile name rows moments (Ends (Refusal (broken_line name Distributive (codes "a" ∷ codes "b" ∷ codes "c" ∷ []))))
+  broken_not_shown is = record { verdict = Unlawful Distributive (codes "a" ∷ codes "b" ∷ codes "c" ∷ []); judged = is; comes = refl }
+
+  pub view_shown : IsAccepted view_format rows seen → ShowTasks ViewFile name rows moments (Ends (Served Done seen_shown))
+  unfolding canonical spaced
+  view_shown is = view_accepted seen is refl
+
+  pub map_shown : IsAccepted map_format rows pair.plan → ShowTasks MapFile name rows moments (Ends (Served Done pair_shown))
+  unfolding canonical spaced
+  map_shown is = map_accepted pair.plan is refl

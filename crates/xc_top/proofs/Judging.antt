@@ -11,13 +11,13 @@ use Rattle.xc_base.specs.declared.shelf.File.{File as ShelfFile}
 use Rattle.xc_base.specs.Shelves.{Shelved, IsLoaded}
 use Rattle.xc_top.specs.Requests.{LatticeOf}
 use Rattle.xc_top.specs.Texts.{broken_text, file_line}
-use Rattle.xc_top.specs.Outcomes.{Event, HasText, Refusal, Served, Ending, Cuts, file_limit, JudgesLattice, IsCourse}
+use Rattle.xc_top.specs.Outcomes.{Event, Ends, HasText, Refusal, Served, Ending, Cuts, file_limit, JudgesLattice, IsCourse}
 use Rattle.xc_top.specs.Working.{ComesTo, Comes, IsCut, IsCutHalt, IsLoadHalt, IsPrepared}
 use Rattle.xc_top.specs.declared.answer.Answer.{Answer}
 use Rattle.xc_top.specs.declared.halt.Halt.{Halt}
 use Rattle.xc_top.specs.declared.halt.Halt.TheVariants.{Words, Refused, ReadFault, WriteFault, Memory}
 use Rattle.xc_top.specs.declared.status.Status.TheVariants.{No}
-use Rattle.xc_top.proofs.Courses.{cut_stops, cut_comes_to, load_halted, load_comes_to}
+use Rattle.xc_top.proofs.Courses.{stands_by, cut_stops, cut_comes_to, load_halted, load_comes_to}
 
 -- the verdict on a file with a fault
 pub faulty_verdict : (rows : List Row) (e : LatFault) (fault : FileFault) → e ≡ File fault → IsFault rows e → IsVerdict rows (Faulty fault)
@@ -31,7 +31,7 @@ judged_refusal name rows fault line judged is = record { verdict = Faulty fault;
 
 -- what a lattice's text is comes of its file
 pub judged_text : (name : List ℕ) (rows : List Row) (v : LatticeValue) (result : Result Answer Halt) → IsVerdict rows (Lawful v) → ComesTo (HasText v) result → ComesTo (JudgesLattice name rows) result
-judged_text name rows v (Ok answer) judged text = record { verdict = Lawful v; judged = judged; comes = text }
+judged_text name rows v (Ok answer) judged text = stands_by (HasText v) (JudgesLattice name rows) answer (λ o has. record { verdict = Lawful v; judged = judged; comes = has }) text
 judged_text name rows v (Err (Refused line)) judged text = record { verdict = Lawful v; judged = judged; comes = text }
 judged_text name rows v (Err Memory) judged text = tt
 judged_text name rows v (Err Words) judged text = text
@@ -44,7 +44,7 @@ module _ (name bytes : List ℕ) where
   judging rows moments = Ending (JudgesLattice name rows)
 
   judged_all : (rows : List Row) (result : Result Answer Halt) → ComesTo (JudgesLattice name rows) result → Comes (judging rows) result
-  judged_all rows (Ok answer) h = λ m. h
+  judged_all rows (Ok answer) h = stands_by (JudgesLattice name rows) (λ o. (m : ℕ → List ShelfFile) → judging rows m (Ends o)) answer (λ o j m. j) h
   judged_all rows (Err (Refused line)) h = λ m. h
   judged_all rows (Err Memory) h = tt
   judged_all rows (Err Words) h = h

@@ -82,11 +82,11 @@ pub lattice_broken : (name : List ℕ) (rows : List Row) (law : Law) (names : Li
 lattice_broken name rows law names line judged told = record { verdict = Unlawful law names; judged = judged; told = told }
 
 -- where one course behind a file is another, so is the whole
-map_by : (name : List ℕ) (next more : MapValue → Course) → ((plan : MapValue) (m : ℕ → List File) (e : Event) → next plan m e → more plan m e) → (rows : List Row) (m : ℕ → List File) (e : Event) → ReadsMap name next rows m e → ReadsMap name more rows m e
+pub map_by : (name : List ℕ) (next more : MapValue → Course) → ((plan : MapValue) (m : ℕ → List File) (e : Event) → next plan m e → more plan m e) → (rows : List Row) (m : ℕ → List File) (e : Event) → ReadsMap name next rows m e → ReadsMap name more rows m e
 map_by name next more f rows m e (map_faulty fault first is) = map_faulty fault first is
 map_by name next more f rows m e (map_accepted plan accepted h) = map_accepted plan accepted (f plan m e h)
 
-view_by : (name : List ℕ) (next more : ViewValue → Course) → ((v : ViewValue) (m : ℕ → List File) (e : Event) → next v m e → more v m e) → (rows : List Row) (m : ℕ → List File) (e : Event) → ReadsView name next rows m e → ReadsView name more rows m e
+pub view_by : (name : List ℕ) (next more : ViewValue → Course) → ((v : ViewValue) (m : ℕ → List File) (e : Event) → next v m e → more v m e) → (rows : List Row) (m : ℕ → List File) (e : Event) → ReadsView name next rows m e → ReadsView name more rows m e
 view_by name next more f rows m e (view_faulty fault first is) = view_faulty fault first is
 view_by name next more f rows m e (view_accepted v accepted h) = view_accepted v accepted (f v m e h)
 
@@ -95,7 +95,7 @@ verdict_by name next more f (Faulty fault) m e h = h
 verdict_by name next more f (Unlawful law names) m e h = h
 verdict_by name next more f (Lawful l) m e h = f l m e h
 
-lattice_by : (name : List ℕ) (next more : LatticeValue → Course) → ((l : LatticeValue) (m : ℕ → List File) (e : Event) → next l m e → more l m e) → (rows : List Row) (m : ℕ → List File) (e : Event) → ReadsLattice name next rows m e → ReadsLattice name more rows m e
+pub lattice_by : (name : List ℕ) (next more : LatticeValue → Course) → ((l : LatticeValue) (m : ℕ → List File) (e : Event) → next l m e → more l m e) → (rows : List Row) (m : ℕ → List File) (e : Event) → ReadsLattice name next rows m e → ReadsLattice name more rows m e
 lattice_by name next more f rows m e h = record { verdict = h.verdict; judged = h.judged; comes = verdict_by name next more f h.verdict m e h.comes }
 
 pub viewpoint_by : (file : List ℕ) (next more : Viewpoint → Course) → ((p : Viewpoint) (m : ℕ → List File) (e : Event) → next p m e → more p m e) → (m : ℕ → List File) (e : Event) → LoadsViewpoint file next m e → LoadsViewpoint file more m e

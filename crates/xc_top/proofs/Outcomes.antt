@@ -20,17 +20,20 @@ use Rattle.xc_merge.specs.declared.fault.MergeFault.{MergeFault}
 use Rattle.std.proofs.lemmas.List.{length-map}
 use Rattle.xc_base.specs.Formats.{IsAccepted}
 use Rattle.xc_ctl.specs.declared.kind.Kind.{Kind}
-use Rattle.xc_top.specs.Requests.{Request, LatticeOf, CheckOf}
+use Rattle.xc_lattice.specs.Printed.{lattice_lines}
+use Rattle.xc_view.specs.Printing.{view_lines}
+use Rattle.xc_sigmap.specs.Printing.{map_lines}
+use Rattle.xc_top.specs.Requests.{Request, LatticeOf, CheckOf, ShowOf, ShowKind, LatticeFile, ViewFile, MapFile}
 use Rattle.xc_top.specs.Texts.{file_line, lattice_text, states_line, merge_line}
-use Rattle.xc_top.specs.Checks.{signature_of}
-use Rattle.xc_top.specs.Outcomes.{Outcome, Absent, Refusal, Served, Event, Ends, Loading, Ending, rest, file_limit, HasText, ComesOf, JudgesLattice, Opens, LoadsViewpoint, LoadsViewpoints, ReadsMap, ReadsView, ReadsLattice, ComesOfLattice, Reports, Evaluates, states_excess, FormulaTasks, MergeTasks, ViewpointTasks, files_of, IsCourse}
+use Rattle.xc_report.specs.Reports.{signature_of}
+use Rattle.xc_top.specs.Outcomes.{Outcome, Absent, Refusal, Served, Event, Ends, Loading, Ending, rest, file_limit, HasText, ComesOf, JudgesLattice, Opens, LoadsViewpoint, LoadsViewpoints, ReadsMap, ReadsView, ReadsLattice, ComesOfLattice, Reports, Evaluates, states_excess, FormulaTasks, MergeTasks, ViewpointTasks, files_of, Shows, IsCourse}
 use Rattle.xc_top.specs.Outcomes.ReadsMap.{faulty as map_faulty, accepted as map_accepted}
 use Rattle.xc_top.specs.Outcomes.ReadsView.{faulty as view_faulty, accepted as view_accepted}
 use Rattle.xc_top.specs.Outcomes.ReadsFormulas.{faulty as formulas_faulty, accepted as formulas_accepted}
 use Rattle.xc_top.specs.declared.status.Status.TheVariants.{Done}
 use Rattle.xc_top.proofs.Courses.{Course}
-use Rattle.xc_top.proofs.Lattices.{IsNamed, AreNamed, named_more, file_is_named}
-use Rattle.xc_top.proofs.Framed.{IsGood, accepted_is_sound}
+use Rattle.xc_report.proofs.Lattices.{IsNamed, AreNamed, named_more, file_is_named}
+use Rattle.xc_report.proofs.Framed.{IsGood, accepted_is_sound}
 use Rattle.xc_top.proofs.Reports.{AreFormulas, good_formulas, one_report}
 use Rattle.xc_view.proofs.Verdicts.{views_are_unique, accepted_is_faultless as views_have_no_fault}
 use Rattle.xc_ctl.proofs.Verdicts.{tables_are_unique, formulas_have_no_fault}
@@ -149,6 +152,21 @@ check_once sigmap formulas m =
     (λ none. opens_once formulas (FormulaTasks (merge_of plan all) formulas) later
     (λ last. formulas_once (merge_of plan all) formulas last (rest later) (record { sound = accepted_is_sound rows plan accepted; count = found.many; are_named = found.are_named; faultless = none }))))))
 
+shown_once : (lines : List (List (List ℕ))) (m : ℕ → List File) → Once (Shows lines m)
+shown_once lines m o p a b = same_end (a ∙ sym b)
+
+show_once : (kind : ShowKind) (name : List ℕ) (m : ℕ → List File) → Once (IsCourse (ShowOf kind name) m)
+show_once LatticeFile name m =
+    opens_once name (ReadsLattice name (λ l. Shows (lattice_lines l))) m
+    (λ rows. lattice_once name (λ l. Shows (lattice_lines l)) rows (rest m) (λ l is. shown_once (lattice_lines l) (rest m)))
+show_once ViewFile name m =
+    opens_once name (ReadsView name (λ v. Shows (view_lines v))) m
+    (λ rows. view_once name (λ v. Shows (view_lines v)) rows (rest m) (λ v. shown_once (view_lines v) (rest m)))
+show_once MapFile name m =
+    opens_once name (ReadsMap name (λ plan. Shows (map_lines plan))) m
+    (λ rows. map_once name (λ plan. Shows (map_lines plan)) rows (rest m) (λ plan accepted. shown_once (map_lines plan) (rest m)))
+
 pub course_once : (request : Request) (m : ℕ → List File) → Once (IsCourse request m)
 course_once (LatticeOf name) m = opens_once name (λ rows moments. Ending (JudgesLattice name rows)) m (λ rows. judged_once name rows)
 course_once (CheckOf sigmap formulas) m = check_once sigmap formulas m
+course_once (ShowOf kind name) m = show_once kind name m

@@ -1,12 +1,15 @@
 -- There is one text of the values of formulas, and one at most.
 use Rattle.std.proofs.Common.{◌≡◌, ℕ, zero, suc, ◌+◌, ◌-◌, ◌<◌, ◌≤◌, Bool, true, false, ◌&&◌, nat_le, List, [], ◌∷◌, ◌++◌, length, refl, sym, ◌∙◌, ap, subst, arith}
+use Rattle.std.specs.Prelude.{None, Option, codes, count_by, fold, cond, ◌==◌}
+use Rattle.std.specs.Fmt.{decimal}
 use Rattle.std.specs.List.{list_all, range_with_len, flat_map, filter, sum}
+use Rattle.xc_base.specs.Names.{name_at}
 use Rattle.std.proofs.lemmas.Bool.{and_parts, leb-true}
 use Rattle.xc_theory.specs.Lattices.{LatticeData}
 use Rattle.xc_theory.proofs.Chains.{heights_are_unique}
 use Rattle.xc_alg.specs.Products.{product}
 use Rattle.xc_product.specs.Heights.{AreHeights}
-use Rattle.xc_merge.specs.Merges.{Merge, parts_of, names_of_parts}
+use Rattle.xc_merge.specs.Merges.{Merge, name_of, viewpoint_at, parts_of, names_of_parts}
 use Rattle.xc_merge.specs.Projections.{states_of}
 use Rattle.xc_merge.specs.MergedFrames.{merged_frame, initials_of, is_merged_initial}
 use Rattle.xc_theory.specs.Codes.{total}
@@ -19,11 +22,12 @@ use Rattle.xc_ctl.specs.Frames.{IsFrame}
 use Rattle.xc_ctl.specs.Tables.{is_table, is_table_in, are_ordered_from}
 use Rattle.xc_ctl.specs.Rounds.{RoundsTable}
 use Rattle.xc_ctl.specs.declared.kind.Kind.{Kind}
-use Rattle.xc_top.specs.Checks.{signature_of, map_text, node_text, value_text, block_text, blocks_text, check_text, AreTables}
+use Rattle.xc_report.specs.Reports.{signature_of, line, head_text, formula_text, node_text, value_text, gives, count_text, share_text, values_text, size_text, block_text}
+use Rattle.xc_top.specs.Checks.{blocks_text, check_text, AreTables}
 use Rattle.xc_top.specs.Outcomes.{Outcome, Served, Reports}
 use Rattle.xc_top.specs.declared.status.Status.TheVariants.{Done}
-use Rattle.xc_top.proofs.Lattices.{names_as_many}
-use Rattle.xc_top.proofs.Framed.{IsGood, merge_is_framed, merge_is_fit}
+use Rattle.xc_report.proofs.Lattices.{names_as_many}
+use Rattle.xc_report.proofs.Framed.{IsGood, merge_is_framed, merge_is_fit}
 use Rattle.xc_top.proofs.Tables.{TellSame, IsFormula, tables_tell_same, some_table}
 
 -- what a test of a table says of its nodes
@@ -61,24 +65,66 @@ each_below : (p : ℕ → Bool) (k n m : ℕ) (f g : ℕ → List ℕ) → k + n
 each_below p k zero m f g h same = refl
 each_below p k (suc n) m f g h same = one_below p k (range_with_len (k + 1) n) f g (p k) refl (same k (omega arith)) (each_below p (k + 1) n m f g (omega arith) same)
 
--- tables that tell the same at the states have the same lines of values
-values_same : (m : Merge) (f g : ℕ → ℕ) → ((s : ℕ) → s < states_of m.plan → f s ≡ g s) → flat_map (value_text m f) (initials_of m) ≡ flat_map (value_text m g) (initials_of m)
-unfolding initials_of
-values_same m f g same = each_below (is_merged_initial m) 0 (states_of m.plan) (states_of m.plan) (value_text m f) (value_text m g) (omega arith) (λ s low. let e : f s ≡ g s = same s low in rw e refl)
+-- tests that agree below a number count the same of what a test picks there
+abbrev counted : (ℕ → Bool) → ℕ → ℕ → ℕ
+counted f a x = a + cond (f x) 1 0
 
--- and the same lines of rounds
-rounds_same : (nodes : List Kind) (t u : RoundsTable) (k n : ℕ) → k + n ≤ length nodes → ((i : ℕ) → i < length nodes → t.rounds i ≡ u.rounds i) → flat_map (node_text nodes t) (range_with_len k n) ≡ flat_map (node_text nodes u) (range_with_len k n)
-rounds_same nodes t u k zero h same = refl
-rounds_same nodes t u k (suc n) h same =
+count_picked : (p : ℕ → Bool) (k start : ℕ) (states : List ℕ) (f g : ℕ → Bool) (b : Bool) → p k ≡ b → f k ≡ g k → ((n : ℕ) → fold (counted f) n (filter p states) ≡ fold (counted g) n (filter p states)) → fold (counted f) start (filter p (k ∷ states)) ≡ fold (counted g) start (filter p (k ∷ states))
+count_picked p k start states f g true e first more =
+    let next : counted f start k ≡ counted g start k = ap (λ (b : Bool). start + cond b 1 0) first in
+    rw e (ap (λ (n : ℕ). fold (counted f) n (filter p states)) next ∙ more (counted g start k))
+count_picked p k start states f g false e first more = rw e (more start)
+
+count_below : (p : ℕ → Bool) (k n m start : ℕ) (f g : ℕ → Bool) → k + n ≤ m → ((s : ℕ) → s < m → f s ≡ g s) → fold (counted f) start (filter p (range_with_len k n)) ≡ fold (counted g) start (filter p (range_with_len k n))
+count_below p k zero m start f g h same = refl
+count_below p k (suc n) m start f g h same = count_picked p k start (range_with_len (k + 1) n) f g (p k) refl (same k (omega arith)) (λ here. count_below p (k + 1) n m here f g (omega arith) same)
+
+-- functions that agree everywhere
+each_same : (f g : ℕ → List ℕ) (xs : List ℕ) → ((x : ℕ) → f x ≡ g x) → flat_map f xs ≡ flat_map g xs
+each_same f g [] same = refl
+each_same f g (x ∷ xs) same = let first = same x in let more = each_same f g xs same in rw (first, more) refl
+
+-- functions that agree at the states have the same lines of values, and the same shares
+module _ (marked : Bool) (m : Merge) (f g : ℕ → ℕ) (same : (s : ℕ) → s < states_of m.plan → f s ≡ g s) where
+  values_same : flat_map (value_text marked m f) (initials_of m) ≡ flat_map (value_text marked m g) (initials_of m)
+  unfolding initials_of
+  values_same = each_below (is_merged_initial m) 0 (states_of m.plan) (states_of m.plan) (value_text marked m f) (value_text marked m g) (omega arith) (λ s low. let e : f s ≡ g s = same s low in rw e refl)
+
+  counted_same : (v element : ℕ) → count_by (λ s. gives m v element (f s)) (initials_of m) ≡ count_by (λ s. gives m v element (g s)) (initials_of m)
+  unfolding initials_of
+  counted_same v element = count_below (is_merged_initial m) 0 (states_of m.plan) (states_of m.plan) 0 (λ s. gives m v element (f s)) (λ s. gives m v element (g s)) (omega arith) (λ s low. let e : f s ≡ g s = same s low in rw e refl)
+
+  counts_same : (v element : ℕ) → count_text m f v element ≡ count_text m g v element
+  counts_same v element = ap (λ (n : ℕ). 32 ∷ name_at (viewpoint_at m v).lattice.names element ++ codes "=" ++ decimal n) (counted_same v element)
+
+  share_same : (v : ℕ) → share_text marked m f v ≡ share_text marked m g v
+  share_same v = ap (λ (text : List ℕ). line marked (codes "share " ++ name_of m.plan v ++ text)) (each_same (count_text m f v) (count_text m g v) (range_with_len 0 (length (viewpoint_at m v).lattice.names)) (counts_same v))
+
+  told_same : values_text marked m f ≡ values_text marked m g
+  told_same =
+      ap (λ (text : List ℕ). text ++ flat_map (share_text marked m f) (range_with_len 0 (length m.viewpoints))) values_same
+      ∙ ap (λ (text : List ℕ). flat_map (value_text marked m g) (initials_of m) ++ text) (each_same (share_text marked m f) (share_text marked m g) (range_with_len 0 (length m.viewpoints)) share_same)
+
+-- and tables that tell the same rounds have the same lines of them
+rounds_same : (marked : Bool) (nodes : List Kind) (t u : RoundsTable) (k n : ℕ) → k + n ≤ length nodes → ((i : ℕ) → i < length nodes → t.rounds i ≡ u.rounds i) → flat_map (node_text marked nodes t) (range_with_len k n) ≡ flat_map (node_text marked nodes u) (range_with_len k n)
+rounds_same marked nodes t u k zero h same = refl
+rounds_same marked nodes t u k (suc n) h same =
     let first : t.rounds k ≡ u.rounds k = same k (omega arith) in
-    let more = rounds_same nodes t u (k + 1) n (omega arith) same in
+    let more = rounds_same marked nodes t u (k + 1) n (omega arith) same in
     rw (first, more) refl
 
-block_same : (m : Merge) (number : ℕ) (nodes : List Kind) (t u : RoundsTable) → 1 ≤ length nodes → TellSame (states_of m.plan) (length nodes) t u → block_text m number nodes t ≡ block_text m number nodes u
-block_same m number nodes t u some same =
-    let rounds = rounds_same nodes t u 0 (length nodes) (omega arith) same.rounds in
-    let values = values_same m (t.at (length nodes - 1)) (u.at (length nodes - 1)) (λ s low. same.at (length nodes - 1) s (omega arith) low) in
-    rw (rounds, values) refl
+same_at_states : (m : Merge) (nodes : List Kind) (t u : RoundsTable) → TellSame (merged_frame m).states (length nodes) t u → TellSame (states_of m.plan) (length nodes) t u
+unfolding merged_frame
+same_at_states m nodes t u same = same
+
+-- so two tables that tell the same have the same block
+pub block_same : (marked : Bool) (m : Merge) (number : ℕ) (nodes : List Kind) (t u : RoundsTable) (size : Option ℕ) → 1 ≤ length nodes → TellSame (merged_frame m).states (length nodes) t u → block_text marked m number nodes t size ≡ block_text marked m number nodes u size
+block_same marked m number nodes t u size some tell =
+    let same = same_at_states m nodes t u tell in
+    let rounds = rounds_same marked nodes t u 0 (length nodes) (omega arith) same.rounds in
+    let values = told_same marked m (t.at (length nodes - 1)) (u.at (length nodes - 1)) (λ s low. same.at (length nodes - 1) s (omega arith) low) in
+    ap (λ (text : List ℕ). formula_text marked m number nodes ++ text ++ values_text marked m (t.at (length nodes - 1)) ++ size_text marked size) rounds
+    ∙ ap (λ (text : List ℕ). formula_text marked m number nodes ++ flat_map (node_text marked nodes u) (range_with_len 0 (length nodes)) ++ text ++ size_text marked size) values
 
 -- formulas over a frame
 pub record AreFormulas (m : Merge) (formulas : List (List Kind)) : Type 0 where
@@ -101,10 +147,6 @@ more_formulas m nodes formulas are = record {
   within = (and_parts (is_table_in (product (parts_of m)).size (length m.plan.props) nodes) (list_all (is_table_in (product (parts_of m)).size (length m.plan.props)) formulas) are.within).1;
 }
 
-same_at_states : (m : Merge) (nodes : List Kind) (t u : RoundsTable) → TellSame (merged_frame m).states (length nodes) t u → TellSame (states_of m.plan) (length nodes) t u
-unfolding merged_frame
-same_at_states m nodes t u same = same
-
 -- so formulas have one text
 blocks_same : (m : Merge) (number : ℕ) (formulas : List (List Kind)) (ts us : List RoundsTable) → AreFormulas m formulas → AreTables (merged_frame m) formulas ts → AreTables (merged_frame m) formulas us → blocks_text m number formulas ts ≡ blocks_text m number formulas us
 blocks_same m number [] ts us are a b = refl
@@ -112,8 +154,8 @@ blocks_same m number (nodes ∷ formulas) [] us are a b = absurd a
 blocks_same m number (nodes ∷ formulas) (t ∷ ts) [] are a b = absurd b
 blocks_same m number (nodes ∷ formulas) (t ∷ ts) (u ∷ us) are a b =
     let formula = first_formula m nodes formulas are in
-    let first : block_text m number nodes t ≡ block_text m number nodes u = block_same m number nodes t u (table_parts nodes formula.ordered).some (same_at_states m nodes t u (tables_tell_same (merged_frame m) nodes t u formula a.0 b.0)) in
-    ap (λ (text : List ℕ). text ++ blocks_text m (number + 1) formulas ts) first ∙ ap (λ (text : List ℕ). block_text m number nodes u ++ text) (blocks_same m (number + 1) formulas ts us (more_formulas m nodes formulas are) a.1 b.1)
+    let first : block_text false m number nodes t None ≡ block_text false m number nodes u None = block_same false m number nodes t u None (table_parts nodes formula.ordered).some (tables_tell_same (merged_frame m) nodes t u formula a.0 b.0) in
+    ap (λ (text : List ℕ). text ++ blocks_text m (number + 1) formulas ts) first ∙ ap (λ (text : List ℕ). block_text false m number nodes u None ++ text) (blocks_same m (number + 1) formulas ts us (more_formulas m nodes formulas are) a.1 b.1)
 
 -- the formulas of a file over what is merged
 pub good_formulas : (m : Merge) (rows : List Row) (formulas : List (List Kind)) → IsGood m → IsAccepted (formula_format (signature_of m)) rows formulas → AreFormulas m formulas
@@ -131,7 +173,7 @@ one_report m formulas are o p a b =
     let blocks = blocks_same m 1 formulas a.tables b.tables are a.are_tables b.are_tables in
     a.served
     ∙ ap (λ (hs : List ℕ). Served Done (check_text m (sum hs) formulas a.tables)) heights
-    ∙ ap (λ (text : List ℕ). Served Done (map_text m (sum b.heights) ++ text)) blocks
+    ∙ ap (λ (text : List ℕ). Served Done (head_text false m (sum b.heights) ++ text)) blocks
     ∙ sym b.served
 
 -- each formula has a table

@@ -9,12 +9,15 @@ use Rattle.xc_top.specs.Requests.{Request, request_of}
 use Rattle.xc_top.specs.Texts.{read_line}
 use Rattle.xc_top.specs.Outcomes.{Outcome, Absent, Refusal, Served, Ends, always, IsCourse, IsOutcome, IsReached}
 use Rattle.xc_top.specs.Headline.{IsServed, IsRefusal, MayRefuse, MayServe, MayLoad, AddsAtMost, FailedOnce, KeepsOrFails}
-use Rattle.xc_top.specs.Working.{IsPrepared, IsWorked, CanEnd, IsWriteHalt, outcome_of, passed_status}
+use Rattle.xc_top.specs.Writing.{IsReady, Gives, Delivers, WritesOutcome, passed_status}
+use Rattle.xc_top.specs.Working.{IsPrepared, IsWorked, CanEnd, EndsWith, StandsFor}
 use Rattle.xc_top.specs.declared.answer.Answer.{Answer}
+use Rattle.xc_top.specs.declared.answer.Answer.TheVariants.{Text, Report}
 use Rattle.xc_top.specs.declared.answer.Passed.{Passed}
 use Rattle.xc_top.specs.declared.status.Status.{Status}
 use Rattle.xc_top.specs.declared.halt.Halt.{Halt}
 use Rattle.xc_top.specs.declared.halt.Halt.TheVariants.{Words, Refused, ReadFault, WriteFault, Memory}
+use Rattle.xc_top.proofs.Delivering.{front_of_none}
 use Rattle.xc_top.proofs.Outcomes.{course_once}
 
 some_request : (found : Option Request) (request : Request) → Some request ≡ found → IsSome found
@@ -48,11 +51,6 @@ may_load words request name moments e reached = record {
   reached = subst (λ (r : Option Request). MatchOption r ⊥ (λ q. IsReached q moments name)) e reached;
 }
 
--- a sink that got nothing got a front of any text
-front_of_none : (text : List ℕ) (bytes : Option (List ℕ)) → AddsFront text bytes bytes
-front_of_none text None = refl
-front_of_none text (Some bytes) = record { keeps = omega arith; front = sym (take-append_seam bytes text) }
-
 at_most_none : (bytes : Option (List ℕ)) (outcome : Outcome) → AddsAtMost bytes bytes outcome
 at_most_none bytes (Served status text) = front_of_none text bytes
 at_most_none bytes (Absent name) = refl
@@ -82,33 +80,40 @@ halted words request shelf shelf_after out (ReadFault line) e p = (
 halted words request shelf shelf_after out WriteFault e p = absurd p
 halted words request shelf shelf_after out Memory e p = (for_all words shelf.told (AddsAtMost out.bytes out.bytes) (at_most_none out.bytes), λ n. refl, keeps_asked words request shelf shelf_after e p)
 
-part_is_front : (text : List ℕ) (old new : Option (List ℕ)) → AddsPart text old new → AddsFront text old new
-part_is_front text None new p = p
-part_is_front text (Some old) None p = absurd p
-part_is_front text (Some old) (Some new) p = p.0
-
 no_request : {P : Type 0} (found : Option Request) (request : Request) → Some request ≡ found → found ≡ None → P
 no_request None request e n = cc
 no_request (Some r) request e n = cc
 
--- where there was an answer, its text was written, or a front of it
-pub delivered : (words : List (List ℕ)) (request : Request) (shelf shelf_after : Shelved) (old new : Sunk) (answer : Answer) (result : Result Passed Halt) → Some request ≡ request_of words
-    → shelf_after.told ≡ shelf.told → IsPrepared (IsCourse request) shelf shelf_after (Ok answer)
-    → IfOk result (λ p. p ≡ answer.passed) → OnOk result (AddsWhole (string_bytes answer.text) old.bytes new.bytes) → OnOk result (IsCalm old new) → IfErr result (IsWriteHalt (string_bytes answer.text) old new)
-    → IsWorked words shelf shelf_after old new result
-delivered words request shelf shelf_after old new answer (Ok passed) e same prepared is whole calm stopped =
-    let status : passed_status answer.passed ≡ passed_status passed = ap passed_status (sym is) in (
-      some_request (request_of words) request e,
-      record {
-        outcome = settled words request shelf.told (outcome_of answer) (IsServed (λ s text. (s ≡ passed_status passed) × AddsWhole text old.bytes new.bytes)) e prepared.1 (status, whole);
-        may = subst (λ (s : Status). MayServe words old new s) status (may_serve words request old new (passed_status answer.passed) (string_bytes answer.text) e prepared.0 whole);
-        calm = calm;
-      },
-    )
-delivered words request shelf shelf_after old new answer (Err Words) e same prepared is whole calm stopped = absurd stopped
-delivered words request shelf shelf_after old new answer (Err (Refused line)) e same prepared is whole calm stopped = absurd stopped
-delivered words request shelf shelf_after old new answer (Err (ReadFault line)) e same prepared is whole calm stopped = absurd stopped
-delivered words request shelf shelf_after old new answer (Err WriteFault) e same prepared is whole calm stopped =
-    (some_request (request_of words) request e, stopped.0, settled words request shelf.told (outcome_of answer) (IsServed (λ status text. AddsPart text old.bytes new.bytes)) e prepared.1 stopped.1)
-delivered words request shelf shelf_after old new answer (Err Memory) e same prepared is whole calm stopped =
-    (settled words request shelf.told (outcome_of answer) (AddsAtMost old.bytes new.bytes) e prepared.1 (part_is_front (string_bytes answer.text) old.bytes new.bytes stopped), no_request (request_of words) request e, keeps_asked words request shelf shelf_after e (inl same))
+-- an answer is of an outcome
+stands_for_one : (P : Outcome → Type 0) (answer : Answer) → StandsFor P answer → (o : Outcome) × Gives answer o × P o
+stands_for_one P (Text passed text) h = (Served (passed_status passed) text, refl, h)
+stands_for_one P (Report machine formulas) h = (h.outcome, h.reports, h.holds)
+
+-- and can be written
+pub is_ready : (P : Outcome → Type 0) (answer : Answer) → StandsFor P answer → IsReady answer
+is_ready P (Text passed text) h = tt
+is_ready P (Report machine formulas) h = h.ready
+
+-- where an outcome was served, its text was written, or a front of it
+module _ (words : List (List ℕ)) (request : Request) (shelf shelf_after : Shelved) (old new : Sunk) (e : Some request ≡ request_of words) (same : shelf_after.told ≡ shelf.told) where
+  outcome_delivered : (outcome : Outcome) (result : Result Passed Halt) → EndsWith (IsCourse request) shelf outcome → WritesOutcome outcome old new result → IsWorked words shelf shelf_after old new result
+  outcome_delivered (Absent name) result ends w = absurd w
+  outcome_delivered (Refusal line) result ends w = absurd w
+  outcome_delivered (Served status text) (Ok passed) ends w = (
+    some_request (request_of words) request e,
+    record {
+      outcome = settled words request shelf.told (Served status text) (IsServed (λ s t. (s ≡ passed_status passed) × AddsWhole t old.bytes new.bytes)) e ends.1 (w.0, w.1);
+      may = subst (λ (s : Status). MayServe words old new s) w.0 (may_serve words request old new status text e ends.0 w.1);
+      calm = w.2;
+    },
+  )
+  outcome_delivered (Served status text) (Err WriteFault) ends w = (some_request (request_of words) request e, w.0, settled words request shelf.told (Served status text) (IsServed (λ s t. AddsPart t old.bytes new.bytes)) e ends.1 w.1)
+  outcome_delivered (Served status text) (Err Memory) ends w = (settled words request shelf.told (Served status text) (AddsAtMost old.bytes new.bytes) e ends.1 w, no_request (request_of words) request e, keeps_asked words request shelf shelf_after e (inl same))
+  outcome_delivered (Served status text) (Err Words) ends w = absurd w
+  outcome_delivered (Served status text) (Err (Refused line)) ends w = absurd w
+  outcome_delivered (Served status text) (Err (ReadFault line)) ends w = absurd w
+
+  pub delivered : (answer : Answer) (result : Result Passed Halt) → IsPrepared (IsCourse request) shelf shelf_after (Ok answer) → Delivers answer old new result → IsWorked words shelf shelf_after old new result
+  delivered answer result prepared delivers =
+      let one = stands_for_one (EndsWith (IsCourse request) shelf) answer prepared in
+      outcome_delivered one.0 result one.2 (delivers.by one.0 one.1)

@@ -1,5 +1,6 @@
 -- The outcome of a request over files: that of the first of its tasks that refuses, or that loads what is not there.
 use Rattle.std.specs.Prelude.{◌≡◌, ℕ, suc, List, MatchOption, [], ◌∷◌, ◌++◌, map, sum, Option, Some, None, ◌⊎◌, nat_lt, if◌then◌else◌}
+use Rattle.xc_base.specs.Canonical.{canonical}
 use Rattle.xc_base.specs.Formats.{Row, IsAccepted, IsFirstFault}
 use Rattle.xc_base.specs.Lines.{text_rows}
 use Rattle.xc_base.specs.Shelves.{held}
@@ -8,8 +9,11 @@ use Rattle.xc_base.specs.declared.fault.FileFault.{FileFault}
 use Rattle.xc_base.specs.declared.shelf.File.{File}
 use Rattle.xc_theory.specs.Chains.{IsHeight}
 use Rattle.xc_lattice.specs.LatticeFiles.{LatticeValue, Verdict, Faulty, Unlawful, Lawful, IsVerdict}
+use Rattle.xc_lattice.specs.Printed.{lattice_lines}
 use Rattle.xc_view.specs.ViewFiles.{ViewValue, view_format}
+use Rattle.xc_view.specs.Printing.{view_lines}
 use Rattle.xc_sigmap.specs.MapFiles.{MapValue, map_format}
+use Rattle.xc_sigmap.specs.Printing.{map_lines}
 use Rattle.xc_sigmap.specs.declared.parts.Use.{Use}
 use Rattle.xc_product.specs.Heights.{AreHeights}
 use Rattle.xc_merge.specs.Merges.{Merge, Viewpoint, parts_of}
@@ -20,9 +24,10 @@ use Rattle.xc_ctl.specs.Trees.{Signature}
 use Rattle.xc_ctl.specs.Rounds.{RoundsTable}
 use Rattle.xc_ctl.specs.FormulaFiles.{formula_format}
 use Rattle.xc_ctl.specs.declared.kind.Kind.{Kind}
-use Rattle.xc_top.specs.Requests.{Request, LatticeOf, CheckOf, request_of}
+use Rattle.xc_top.specs.Requests.{Request, LatticeOf, CheckOf, ShowOf, ShowKind, LatticeFile, ViewFile, MapFile, request_of}
 use Rattle.xc_top.specs.Texts.{lattice_text, broken_text, file_line, broken_line, merge_line, states_line}
-use Rattle.xc_top.specs.Checks.{state_limit, signature_of, AreTables, check_text}
+use Rattle.xc_report.specs.Reports.{signature_of}
+use Rattle.xc_top.specs.Checks.{state_limit, AreTables, check_text}
 use Rattle.xc_top.specs.declared.status.Status.{Status}
 use Rattle.xc_top.specs.declared.status.Status.TheVariants.{Done, No}
 
@@ -95,7 +100,7 @@ pub data ReadsView (name : List ℕ) (next : ViewValue → (ℕ → List File) �
   faulty : (fault : FileFault) → IsFirstFault view_format rows fault → event ≡ Ends (Refusal (file_line name)) → ReadsView name next rows moments event
   accepted : (v : ViewValue) → IsAccepted view_format rows v → next v moments event → ReadsView name next rows moments event
 
--- what comes of the verdict on a lattice file that a view names
+-- what comes of the verdict on a lattice file, where the request is not to judge it
 abbrev pub ComesOfLattice : List ℕ → (LatticeValue → (ℕ → List File) → Event → Type 0) → Verdict → (ℕ → List File) → Event → Type 0
 ComesOfLattice name next (Faulty fault) moments event = event ≡ Ends (Refusal (file_line name))
 ComesOfLattice name next (Unlawful law names) moments event = event ≡ Ends (Refusal (broken_line name law names))
@@ -156,10 +161,22 @@ MergeTasks plan formulas found = Merges (record { plan = plan; viewpoints = foun
 abbrev pub ViewpointTasks : List ℕ → MapValue → (ℕ → List File) → Event → Type 0
 ViewpointTasks formulas plan = LoadsViewpoints (files_of plan) [] (MergeTasks plan formulas)
 
+-- the canonical text of these lines is for out
+abbrev pub Shows : List (List (List ℕ)) → (ℕ → List File) → Event → Type 0
+Shows lines moments event = event ≡ Ends (Served Done (canonical lines))
+
+-- The tasks of a show behind the rows of its file: they are read as a file of the kind, and its canonical text is for out. No
+-- other file is loaded.
+abbrev pub ShowTasks : ShowKind → List ℕ → List Row → (ℕ → List File) → Event → Type 0
+ShowTasks LatticeFile name = ReadsLattice name (λ l. Shows (lattice_lines l))
+ShowTasks ViewFile name = ReadsView name (λ v. Shows (view_lines v))
+ShowTasks MapFile name = ReadsMap name (λ plan. Shows (map_lines plan))
+
 -- The course of a request: its tasks in their order.
 abbrev pub IsCourse : Request → (ℕ → List File) → Event → Type 0
 IsCourse (LatticeOf name) = Opens name (λ rows moments. Ending (JudgesLattice name rows))
 IsCourse (CheckOf sigmap formulas) = Opens sigmap (ReadsMap sigmap (ViewpointTasks formulas))
+IsCourse (ShowOf kind name) = Opens name (ShowTasks kind name)
 
 -- the outcome of words over files; words that are no request have none
 abbrev pub IsOutcome : List (List ℕ) → List File → Outcome → Type 0

@@ -41,7 +41,7 @@ memory_line = line (codes "fault memory")
 abbrev pub file_line : List ℕ → List ℕ
 file_line name = line (codes "refused file " ++ name)
 
--- for a lattice that breaks a law, where the request is not for it alone
+-- for a lattice that breaks a law, where the request is not to judge it
 abbrev pub broken_line : List ℕ → Law → List (List ℕ) → List ℕ
 broken_line file law names = line (codes "refused broken " ++ file ++ 32 ∷ law_word law ++ flat_map (λ name. 32 ∷ name) names)
 

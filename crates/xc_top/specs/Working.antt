@@ -14,7 +14,12 @@ use Rattle.xc_merge.specs.declared.fault.MergeFault.TheVariants as faults
 use Rattle.std.specs.String.{string_bytes}
 use Rattle.xc_base.specs.Shelves.{Told, Shelved, IsLoaded, HasRisen}
 use Rattle.xc_base.specs.declared.shelf.File.{File}
-use Rattle.xc_top.specs.Outcomes.{Event, Ends, Outcome, Refusal, Served, always, file_limit, IsCourse}
+use Rattle.xc_top.specs.Outcomes.{Event, Ends, Outcome, Refusal, Served, Reports, always, file_limit, IsCourse}
+use Rattle.xc_top.specs.Writing.{CanReport, passed_status}
+use Rattle.xc_machine.specs.Machines.{merge_of}
+use Rattle.xc_machine.specs.declared.machine.Machine.{Machine}
+use Rattle.xc_ctl.specs.Formulas.{nodes_in}
+use Rattle.xc_ctl.specs.declared.formula.Formulas.{Formulas}
 use Rattle.xc_top.specs.Requests.{request_of}
 use Rattle.xc_top.specs.Texts.{read_line, file_line, broken_line, merge_line, value_line, name_line, total_line, product_line, no_initial_line, initial_line}
 use Rattle.xc_top.specs.Headline.{FailedOnce, KeepsOrFails, ForOutcome, IsRefusal, IsServed, MayRefuse, Serves, MayLoad, AddsAtMost, GetsLine}
@@ -23,21 +28,25 @@ use Rattle.xc_base.specs.Sinks.{Sunk, AddsPart, AddsNothing}
 use Rattle.xc_top.specs.declared.halt.Halt.{Halt}
 use Rattle.xc_top.specs.declared.halt.Halt.TheVariants.{Words, Refused, ReadFault, WriteFault, Memory}
 use Rattle.xc_top.specs.declared.answer.Answer.{Answer}
+use Rattle.xc_top.specs.declared.answer.Answer.TheVariants.{Text, Report}
 use Rattle.xc_top.specs.declared.answer.Passed.{Passed}
-use Rattle.xc_top.specs.declared.answer.Passed.TheVariants as passed
 use Rattle.xc_top.specs.declared.status.Status.{Status}
-use Rattle.xc_top.specs.declared.status.Status.TheVariants.{Done, No}
 
-abbrev pub passed_status : Passed → Status
-passed_status passed.Done = Done
-passed_status passed.No = No
+-- a report that can be written, and that is an outcome of which P holds
+pub record IsReport (P : Outcome → Type 0) (machine : Machine) (formulas : Formulas) : Type 0 where
+  pub ready : CanReport (merge_of machine) (nodes_in formulas)
+  pub outcome : Outcome
+  pub reports : Reports (merge_of machine) (nodes_in formulas) outcome
+  pub holds : P outcome
 
-abbrev pub outcome_of : Answer → Outcome
-outcome_of a = Served (passed_status a.passed) (string_bytes a.text)
+-- P holds of the outcome that an answer is of
+abbrev pub StandsFor : (Outcome → Type 0) → Answer → Type 0
+StandsFor P (Text passed text) = P (Served (passed_status passed) text)
+StandsFor P (Report machine formulas) = IsReport P machine formulas
 
 -- the work that P stands for comes to this answer, or to this refusal
 abbrev pub ComesTo : (Outcome → Type 0) → Result Answer Halt → Type 0
-ComesTo P (Ok answer) = P (outcome_of answer)
+ComesTo P (Ok answer) = StandsFor P answer
 ComesTo P (Err (Refused line)) = P (Refusal (string_bytes line))
 ComesTo P (Err Memory) = Unit {0}
 ComesTo P (Err Words) = ⊥
@@ -76,7 +85,7 @@ EndsWith Course shelf outcome = CanEnd Course outcome × IfSome shelf.told (λ t
 
 -- what became of a course: an answer or a refusal is its end, and a load that failed is one that it reaches
 abbrev pub IsPrepared : ((ℕ → List File) → Event → Type 0) → Shelved → Shelved → Result Answer Halt → Type 0
-IsPrepared Course shelf shelf_after (Ok answer) = EndsWith Course shelf (outcome_of answer)
+IsPrepared Course shelf shelf_after (Ok answer) = StandsFor (EndsWith Course shelf) answer
 IsPrepared Course shelf shelf_after (Err (Refused line)) = EndsWith Course shelf (Refusal (string_bytes line))
 IsPrepared Course shelf shelf_after (Err (ReadFault line)) = HasRisen shelf.faults shelf_after.faults × FailedOnce Course shelf shelf_after (λ name. string_bytes line ≡ read_line name)
 IsPrepared Course shelf shelf_after (Err Memory) = KeepsOrFails Course shelf shelf_after
@@ -94,14 +103,6 @@ Stops Course halt = Comes Course (Err halt)
 -- nothing is done behind something
 abbrev pub nothing : {X : Type 0} → X → (ℕ → List File) → Event → Type 0
 nothing x moments event = ⊥
-
--- writing stopped: out has a front of the text that lacks something
-abbrev pub IsWriteHalt : List ℕ → Sunk → Sunk → Halt → Type 0
-IsWriteHalt text old new WriteFault = HasRisen old.faults new.faults × AddsPart text old.bytes new.bytes
-IsWriteHalt text old new Memory = AddsPart text old.bytes new.bytes
-IsWriteHalt text old new Words = ⊥
-IsWriteHalt text old new (Refused line) = ⊥
-IsWriteHalt text old new (ReadFault line) = ⊥
 
 -- the line is that of a failed load which the words may reach
 pub record NamesLoad (words : List (List ℕ)) (line : List ℕ) : Type 0 where

@@ -13,17 +13,18 @@ ghost use Rattle.xc_machine.specs.Machines.{merge_of};
 ghost use Rattle.xc_ctl.specs.FormulaFiles.{formula_format};
 ghost use Rattle.xc_ctl.specs.Formulas.{nodes_in};
 ghost use Rattle.xc_ctl.specs.Tables.{is_table_in};
-ghost use Rattle.xc_top.specs.Checks.{signature_of};
+ghost use Rattle.xc_report.specs.Reports.{signature_of};
 ghost use Rattle.xc_top.specs.Headline.{TellsSame};
 ghost use Rattle.xc_top.specs.Outcomes.{Cuts, Ends, Evaluates, FormulaTasks, IsCourse, LoadsViewpoints, MergeTasks, Opens, files_of};
 ghost use Rattle.xc_top.specs.Requests.{CheckOf};
+ghost use Rattle.xc_top.specs.Writing.{AreGiven};
 ghost use Rattle.xc_top.specs.Working.{Comes, ComesTo, IsFaultRefusal, IsMergeRefusal, IsPrepared, IsRefusalHalt, LeavesShelf};
 
 use crate::answer::Answer;
 use crate::files::{load_map, load_viewpoint};
+use crate::formulas::read_tables;
 use crate::halt::Halt;
 use crate::load::{cut, load};
-use crate::report::{read_tables, report};
 use crate::text;
 use std::alloc::Global;
 use xc_base::{Lines, List, Shelf, Stop};
@@ -44,7 +45,7 @@ fn read_formulas(
     lines: &Lines,
 ) -> Result<Formulas, Halt>
     ensures read { IfOk result (λ fs. IsAccepted (formula_format (signature_of (merge_of machine.now))) (rows_in lines.now) (nodes_in fs)) }
-    ensures range { IfOk result (λ fs. list_all (is_table_in (product (parts_of (merge_of machine.now))).size (length (merge_of machine.now).plan.props)) (nodes_in fs) ≡ true) }
+    ensures given { IfOk result (λ fs. AreGiven (merge_of machine.now) (nodes_in fs)) }
     ensures stopped { IfErr result (IsRefusalHalt (IsFaultRefusal (formula_format (signature_of (merge_of machine.now))) name.now (rows_in lines.now))) }
 {
     match read_tables(alloc, machine, lines) {
@@ -54,38 +55,39 @@ fn read_formulas(
     }
 }
 
-/// The values of formulas, where there are not too many states.
-#[tactic(auto, using(crate::proofs::Checking::evaluated, crate::proofs::Checking::too_many))]
-fn evaluate(alloc: Global, machine: &Machine, formulas: &Formulas) -> Result<Answer, Halt>
-    requires { list_all (is_table_in (product (parts_of (merge_of machine.now))).size (length (merge_of machine.now).plan.props)) (nodes_in formulas.now) ≡ true }
-    ensures { ComesTo (λ outcome. Evaluates (merge_of machine.now) (nodes_in formulas.now) (Ends outcome)) result }
+/// The report on formulas, where there are not too many states.
+#[tactic(auto, using(crate::proofs::Checking::reported, crate::proofs::Checking::too_many))]
+fn evaluate(alloc: Global, machine: Machine, formulas: Formulas) -> Result<Answer, Halt>
+    requires { AreGiven (merge_of machine) (nodes_in formulas) }
+    ensures { ComesTo (λ outcome. Evaluates (merge_of machine) (nodes_in formulas) (Ends outcome)) result }
 {
+    machine.is_framed();
     let count = machine.states();
     if count > STATE_LIMIT {
         return Err(Halt::Refused(text::refused_states(alloc, count)?));
     }
-    report(alloc, machine, formulas)
+    Ok(Answer::Report { machine, formulas })
 }
 
 /// What comes of a formula file of these bytes.
 #[tactic(auto, using(crate::proofs::Checking::formulas_not_cut, crate::proofs::Checking::formulas_refused, crate::proofs::Checking::formulas_evaluated))]
-fn with_formulas(alloc: Global, machine: &Machine, name: &str, bytes: &[u8]) -> Result<Answer, Halt>
-    ensures { Comes (Cuts name.now (FormulaTasks (merge_of machine.now) name.now) bytes.now) result }
+fn with_formulas(alloc: Global, machine: Machine, name: &str, bytes: &[u8]) -> Result<Answer, Halt>
+    ensures { Comes (Cuts name.now (FormulaTasks (merge_of machine) name.now) bytes.now) result }
 {
     let lines = cut(alloc, name, bytes)?;
-    let formulas = read_formulas(alloc, machine, name, &lines)?;
-    evaluate(alloc, machine, &formulas)
+    let formulas = read_formulas(alloc, &machine, name, &lines)?;
+    evaluate(alloc, machine, formulas)
 }
 
 /// Loads the formulas of a check.
 fn load_formulas<S: Shelf>(
     alloc: Global,
     shelf: &mut S,
-    machine: &Machine,
+    machine: Machine,
     formulas: &str,
 ) -> Result<Answer, Halt>
     ensures kept { LeavesShelf (S.seen shelf.old).told (S.seen shelf.new).told result }
-    ensures prepared { IsPrepared (Opens formulas.now (FormulaTasks (merge_of machine.now) formulas.now)) (S.seen shelf.old) (S.seen shelf.new) result }
+    ensures prepared { IsPrepared (Opens formulas.now (FormulaTasks (merge_of machine) formulas.now)) (S.seen shelf.old) (S.seen shelf.new) result }
     ensures files { TellsSame (S.seen shelf.old).told (S.seen shelf.new).told }
 {
     let bytes = load(alloc, shelf, formulas)?;
@@ -118,7 +120,7 @@ fn merge<S: Shelf>(
     ensures files { TellsSame (S.seen shelf.old).told (S.seen shelf.new).told }
 {
     let machine = machine_of(alloc, sigmap, views)?;
-    load_formulas(alloc, shelf, &machine, formulas)
+    load_formulas(alloc, shelf, machine, formulas)
 }
 
 /// Loads the viewpoints of a map behind those that are loaded, and merges them.

@@ -24,6 +24,15 @@ pub(crate) const PAIR: &str =
     "map pair\nuse alice alice.view\nuse bob bob.view\nvar x 0 1\nprop p\n\
     send alice x x\nsend bob x x\ntell alice p p\ntell bob p p\n";
 
+pub(crate) const PAIR_FORMULAS: &str = "EX p\nAX p\nEF p\nEG !p\nAF p\n";
+
+pub(crate) const PAIR_REPORT: &str = "map pair states 2 elements 6 height 3 initial 1\n\
+    formula 1 EX p\nvalue 0 x=0 T,M\nshare alice F=0 T=1\nshare bob F=0 M=1 T=0\n\
+    formula 2 !EX!p\nvalue 0 x=0 T,T\nshare alice F=0 T=1\nshare bob F=0 M=0 T=1\n\
+    formula 3 E[true U p]\nrounds 2 EU 2\nvalue 0 x=0 T,M\nshare alice F=0 T=1\nshare bob F=0 M=1 T=0\n\
+    formula 4 EG!p\nrounds 2 EG 2\nvalue 0 x=0 F,F\nshare alice F=1 T=0\nshare bob F=1 M=0 T=0\n\
+    formula 5 A[true U p]\nrounds 2 AU 2\nvalue 0 x=0 T,M\nshare alice F=0 T=1\nshare bob F=0 M=1 T=0\n";
+
 pub(crate) const SOLO: &str =
     "view solo\nlattice two.lat\nvar x 0 1\ninit x=0\nprop p T when x=1\n";
 
@@ -67,6 +76,25 @@ pub(crate) const LAMPS: &str = "send ben lamp lamp\nsend cat light lamp off=dark
 pub(crate) const CAT_SAFE: &str = "tell cat safe as T\n";
 
 pub(crate) const CAT_STILL: &str = "stutter cat T\n";
+
+pub(crate) const HOUSE_FORMULAS: &str = "EF lit\nAG safe\nEX lit\nEG !lit\nlit -> AX safe\n";
+
+pub(crate) const HOUSE_REPORT: &str = "map house states 4 elements 24 height 5 initial 2\n\
+    formula 1 E[true U lit]\nrounds 2 EU 3\n\
+    value 0 door=shut lamp=off M,N,T\nvalue 1 door=shut lamp=on T,T,T\n\
+    share ann F=0 M=1 T=1\nshare ben F=0 N=1 B=0 T=1\nshare cat F=0 T=2\n\
+    formula 2 !E[true U!safe]\nrounds 3 EU 2\n\
+    value 0 door=shut lamp=off F,T,T\nvalue 1 door=shut lamp=on M,T,T\n\
+    share ann F=1 M=1 T=0\nshare ben F=0 N=0 B=0 T=2\nshare cat F=0 T=2\n\
+    formula 3 EX lit\n\
+    value 0 door=shut lamp=off F,F,T\nvalue 1 door=shut lamp=on T,N,T\n\
+    share ann F=1 M=0 T=1\nshare ben F=1 N=1 B=0 T=0\nshare cat F=0 T=2\n\
+    formula 4 EG!lit\nrounds 2 EG 1\n\
+    value 0 door=shut lamp=off T,N,T\nvalue 1 door=shut lamp=on F,F,F\n\
+    share ann F=1 M=0 T=1\nshare ben F=1 N=1 B=0 T=0\nshare cat F=1 T=1\n\
+    formula 5 !lit|!EX!safe\n\
+    value 0 door=shut lamp=off T,T,T\nvalue 1 door=shut lamp=on M,T,T\n\
+    share ann F=0 M=1 T=1\nshare ben F=0 N=0 B=0 T=2\nshare cat F=0 T=2\n";
 
 /// A viewpoint of thirteen variables, and a map of them.
 pub(crate) const WIDE_VIEW: &str =

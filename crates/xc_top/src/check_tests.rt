@@ -79,13 +79,27 @@ fn shelf_of(alloc: Global) -> Result<MemoryShelf, Fail> {
     Ok(shelf)
 }
 
-/// Runs a check over the files of all tests with some others before them, with the shelf's call of that number failing.
+/// The numbers of the shelf's and out's calls that fail.
+#[derive(Clone, Copy)]
+struct Fails {
+    load: u64,
+    put: u64,
+}
+
+impl Fails {
+    /// None of the first calls.
+    fn never() -> Fails {
+        Fails { load: 99, put: 999 }
+    }
+}
+
+/// Runs a check over the files of all tests with some others before them.
 fn run_check<'a>(
     alloc: Global,
     sigmap: &'a str,
     formulas: &'a str,
     files: &[Parts<'a>],
-    load: u64,
+    fails: Fails,
 ) -> Result<Ran, Fail> {
     let mut words = Vec::new(alloc);
     for word in ["check", sigmap, formulas] {
@@ -93,8 +107,9 @@ fn run_check<'a>(
     }
     let mut shelf = shelf_of(alloc)?;
     add_all(alloc, &mut shelf, files)?;
-    shelf.fail(load)?;
+    shelf.fail(fails.load)?;
     let mut out = MemorySink::new(alloc, 16);
+    out.fail(fails.put)?;
     let mut err = MemorySink::new(alloc, 1000);
     let status = run(alloc, &words, &mut shelf, &mut out, &mut err);
     Ok(Ran { status, out, err })
@@ -106,54 +121,70 @@ fn one<'a>(name: &'a str, texts: &'a [&'a str]) -> Parts<'a> {
 }
 
 #[test]
-fn values_of_formulas(rt: HostRuntime) -> Result<(), Fail> {
+fn reports(rt: HostRuntime) -> Result<(), Fail> {
     let house = [HOUSE, GATE, LAMPS, CAT_SAFE, CAT_STILL];
     for (sigmap, texts, formulas, out) in [
+        ("pair.map", [PAIR].as_slice(), PAIR_FORMULAS, PAIR_REPORT),
         (
             "pair.map",
             [PAIR].as_slice(),
-            "EX p\nAX p\nEF p\n",
+            "{T,M} & !p\n",
             "map pair states 2 elements 6 height 3 initial 1\n\
-            formula 1\nvalue 0 x=0 T,M\nformula 2\nvalue 0 x=0 T,T\n\
-            formula 3\nrounds 2 EU 2\nvalue 0 x=0 T,M\n",
+            formula 1 {T,M}&!p\nvalue 0 x=0 T,M\nshare alice F=0 T=1\nshare bob F=0 M=1 T=0\n",
         ),
         (
             "dead.map",
             [DEAD].as_slice(),
-            "AX false\nEX true\nAF p\n",
+            "AX false\nAF p\n",
             "map dead states 2 elements 2 height 1 initial 1\n\
-            formula 1\nvalue 0 x=0 T\nformula 2\nvalue 0 x=0 F\nformula 3\nrounds 2 AU 1\nvalue 0 x=0 F\n",
+            formula 1 !EX!false\nvalue 0 x=0 T\nshare solo F=0 T=1\n\
+            formula 2 A[true U p]\nrounds 2 AU 1\nvalue 0 x=0 F\nshare solo F=1 T=0\n",
         ),
         (
             "still.map",
             [STILL].as_slice(),
             "EX p\n",
-            "map still states 4 elements 9 height 4 initial 1\nformula 1\nvalue 0 x=0 y=0 T,F\n",
+            "map still states 4 elements 9 height 4 initial 1\n\
+            formula 1 EX p\nvalue 0 x=0 y=0 T,F\nshare ann F=0 M=0 T=1\nshare ben F=1 M=0 T=0\n",
         ),
         (
             "still.map",
             [STILL, "stutter ben M\n"].as_slice(),
             "EX p\n",
-            "map still states 4 elements 9 height 4 initial 1\nformula 1\nvalue 0 x=0 y=0 T,M\n",
+            "map still states 4 elements 9 height 4 initial 1\n\
+            formula 1 EX p\nvalue 0 x=0 y=0 T,M\nshare ann F=0 M=0 T=1\nshare ben F=0 M=1 T=0\n",
         ),
-        (
-            "house.map",
-            house.as_slice(),
-            "EF lit\nAG safe\nEX lit\nEG !lit\nlit -> AX safe\n",
-            "map house states 4 elements 24 height 5 initial 2\n\
-            formula 1\nrounds 2 EU 3\nvalue 0 door=shut lamp=off M,N,T\nvalue 1 door=shut lamp=on T,T,T\n\
-            formula 2\nrounds 3 EU 2\nvalue 0 door=shut lamp=off F,T,T\nvalue 1 door=shut lamp=on M,T,T\n\
-            formula 3\nvalue 0 door=shut lamp=off F,F,T\nvalue 1 door=shut lamp=on T,N,T\n\
-            formula 4\nrounds 2 EG 1\nvalue 0 door=shut lamp=off T,N,T\nvalue 1 door=shut lamp=on F,F,F\n\
-            formula 5\nvalue 0 door=shut lamp=off T,T,T\nvalue 1 door=shut lamp=on M,T,T\n",
-        ),
+        ("house.map", house.as_slice(), HOUSE_FORMULAS, HOUSE_REPORT),
     ] {
         let lines = [formulas];
         let files = [one(sigmap, texts), one("x.ctl", lines.as_slice())];
-        let ran = run_check(rt.alloc(), sigmap, "x.ctl", files.as_slice(), 99)?;
+        let ran = run_check(
+            rt.alloc(),
+            sigmap,
+            "x.ctl",
+            files.as_slice(),
+            Fails::never(),
+        )?;
         assert_eq!(rt; ran.status, Status::Done, "{sigmap}");
         assert_eq!(rt; ran.out.bytes(), out.as_bytes(), "{sigmap}");
         assert_eq!(rt; ran.err.bytes(), b"".as_slice(), "{sigmap}");
+    }
+    Ok(())
+}
+
+#[test]
+fn puts_that_fail(rt: HostRuntime) -> Result<(), Fail> {
+    for put in [1, 2, 5, 9, 20, 31] {
+        let lines = [PAIR_FORMULAS];
+        let files = [one("x.ctl", lines.as_slice())];
+        let fails = Fails { load: 99, put };
+        let ran = run_check(rt.alloc(), "pair.map", "x.ctl", files.as_slice(), fails)?;
+        assert_eq!(rt; ran.status, Status::WriteFault, "{put}");
+        let out = ran.out.bytes();
+        assert!(rt; PAIR_REPORT.as_bytes().starts_with(out));
+        assert!(rt; out.len() < PAIR_REPORT.len());
+        assert!(rt; put == 1 || !out.is_empty());
+        assert_eq!(rt; ran.err.bytes(), b"fault write\n".as_slice(), "{put}");
     }
     Ok(())
 }
@@ -251,7 +282,13 @@ fn refusals_in_their_order(rt: HostRuntime) -> Result<(), Fail> {
         ),
     ] {
         let files = [one(name, texts)];
-        let ran = run_check(rt.alloc(), sigmap, "ax.ctl", files.as_slice(), 99)?;
+        let ran = run_check(
+            rt.alloc(),
+            sigmap,
+            "ax.ctl",
+            files.as_slice(),
+            Fails::never(),
+        )?;
         assert_eq!(rt; ran.status, status, "{err}");
         assert_eq!(rt; ran.out.bytes(), b"".as_slice(), "{err}");
         assert_eq!(rt; ran.err.bytes(), err.as_bytes(), "{err}");
@@ -269,13 +306,25 @@ fn loads_one_after_another(rt: HostRuntime) -> Result<(), Fail> {
         (5, "fault read chain.lat\n"),
         (6, "fault read ax.ctl\n"),
     ] {
-        let ran = run_check(rt.alloc(), "pair.map", "ax.ctl", [].as_slice(), load)?;
+        let ran = run_check(
+            rt.alloc(),
+            "pair.map",
+            "ax.ctl",
+            [].as_slice(),
+            Fails { load, put: 999 },
+        )?;
         assert_eq!(rt; ran.status, Status::ReadFault, "{err}");
         assert_eq!(rt; ran.out.bytes(), b"".as_slice(), "{err}");
         assert_eq!(rt; ran.err.bytes(), err.as_bytes(), "{err}");
     }
-    let ran = run_check(rt.alloc(), "long.map", "ax.ctl", [].as_slice(), 99)?;
-    let head = "map long states 2 elements 4096 height 126 initial 1\nformula 1\n";
+    let ran = run_check(
+        rt.alloc(),
+        "long.map",
+        "ax.ctl",
+        [].as_slice(),
+        Fails::never(),
+    )?;
+    let head = "map long states 2 elements 4096 height 126 initial 1\nformula 1 EX p\n";
     assert!(rt; ran.out.bytes().starts_with(head.as_bytes()));
     Ok(())
 }

@@ -1,4 +1,4 @@
-//! The files of a check: each is loaded, cut and read.
+//! The files of a check or a show: each is loaded, cut and read.
 
 ghost use Rattle.std.specs.Prelude.{IfOk, IfErr};
 ghost use Rattle.xc_base.specs.Formats.{IsAccepted};
@@ -79,7 +79,7 @@ fn view_in(alloc: Global, name: &str, bytes: &[u8]) -> Result<View, Halt>
 }
 
 /// The view in a file.
-fn load_view<S: Shelf>(alloc: Global, shelf: &mut S, name: &str) -> Result<View, Halt>
+pub(crate) fn load_view<S: Shelf>(alloc: Global, shelf: &mut S, name: &str) -> Result<View, Halt>
     ensures read { IfOk result (λ v. IsFile (IsAccepted view_format) (S.seen shelf.old).told name.now (view_of v)) }
     ensures stopped { IfErr result (IsHalted (Opens name.now (ReadsView name.now nothing)) (S.seen shelf.old) (S.seen shelf.new)) }
     ensures kept { LeavesShelf (S.seen shelf.old).told (S.seen shelf.new).told result }
@@ -116,7 +116,11 @@ fn lattice_in(alloc: Global, name: &str, bytes: &[u8]) -> Result<Lattice, Halt>
 }
 
 /// The lattice in a file.
-fn load_lattice<S: Shelf>(alloc: Global, shelf: &mut S, name: &str) -> Result<Lattice, Halt>
+pub(crate) fn load_lattice<S: Shelf>(
+    alloc: Global,
+    shelf: &mut S,
+    name: &str,
+) -> Result<Lattice, Halt>
     ensures read { IfOk result (λ l. IsFile IsLawfulFile (S.seen shelf.old).told name.now (lattice_of l)) }
     ensures stopped { IfErr result (IsHalted (Opens name.now (ReadsLattice name.now nothing)) (S.seen shelf.old) (S.seen shelf.new)) }
     ensures kept { LeavesShelf (S.seen shelf.old).told (S.seen shelf.new).told result }

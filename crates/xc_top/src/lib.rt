@@ -2,16 +2,17 @@
 #![tactic(auto)]
 
 mod answer;
-mod block;
 mod check;
+mod deliver;
 mod files;
+mod formulas;
 mod halt;
 mod load;
 mod outcome;
 mod prepare;
 mod program;
-mod report;
 mod request;
+mod show;
 mod status;
 mod text;
 
@@ -25,5 +26,7 @@ mod check_files;
 mod check_tests;
 #[cfg(test)]
 mod product_tests;
+#[cfg(test)]
+mod show_tests;
 #[cfg(test)]
 mod tests;

@@ -14,19 +14,20 @@ use crate::check::check;
 use crate::halt::Halt;
 use crate::load::{cut, load};
 use crate::request::Request;
+use crate::show::show;
 use crate::text;
 use std::alloc::Global;
-use xc_base::{Lines, Shelf};
+use xc_base::{Bytes, Lines, Shelf};
 use xc_lattice::{LatFault, Lattice, read};
 
 /// The text for a lattice.
 fn describe(alloc: Global, lattice: &Lattice) -> Result<Answer, Halt>
     ensures { ComesTo (HasText (value_of lattice.now)) result }
 {
-    let text = text::lattice_line(alloc, lattice, lattice.height())?;
-    Ok(Answer {
+    let line = text::lattice_line(alloc, lattice, lattice.height())?;
+    Ok(Answer::Text {
         passed: Passed::Done,
-        text,
+        text: Bytes::of(alloc, line.as_bytes())?,
     })
 }
 
@@ -37,9 +38,9 @@ fn judge_lattice(alloc: Global, name: &str, lines: &Lines) -> Result<Answer, Hal
 {
     match read(alloc, lines) {
         Ok(lattice) => describe(alloc, &lattice),
-        Err(LatFault::Broken { law, elements }) => Ok(Answer {
+        Err(LatFault::Broken { law, elements }) => Ok(Answer::Text {
             passed: Passed::No,
-            text: text::broken_text(alloc, law, &elements)?,
+            text: Bytes::of(alloc, text::broken_text(alloc, law, &elements)?.as_bytes())?,
         }),
         Err(LatFault::File(_)) => Err(Halt::Refused(text::refused_file(alloc, name)?)),
         Err(LatFault::Memory) => Err(Halt::Memory),
@@ -79,5 +80,6 @@ pub(crate) fn prepare<S: Shelf>(
     match request {
         Request::Lattice { file } => lattice(alloc, shelf, file),
         Request::Check { sigmap, formulas } => check(alloc, shelf, sigmap, formulas),
+        Request::Show { kind, file } => show(alloc, shelf, *kind, file),
     }
 }

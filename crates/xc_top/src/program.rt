@@ -1,33 +1,19 @@
-ghost use Rattle.std.specs.Prelude.{◌≡◌, map, IfOk, IfErr, OnOk};
+ghost use Rattle.std.specs.Prelude.{map};
 ghost use Rattle.std.specs.String.{string_bytes};
-ghost use Rattle.xc_base.specs.Sinks.{AddsWhole, IsCalm};
 ghost use Rattle.xc_top.specs.Headline.{AnswersNoRequest, AnswersRefusal, AnswersService, AnswersReadFault, AnswersWriteFault, AnswersMemory, IsComplete, KeepsTheRest, TellsSame, GetsLine};
-ghost use Rattle.xc_top.specs.Working.{IsWriteHalt, IsWorked, LeavesShelf};
+ghost use Rattle.xc_top.specs.Working.{IsWorked, LeavesShelf};
 
-use crate::answer::{Answer, Passed};
+use crate::answer::Passed;
+use crate::deliver::deliver;
 use crate::halt::Halt;
 use crate::prepare::prepare;
 use crate::request::requested;
 use crate::status::Status;
 use std::alloc::Global;
-use xc_base::{Shelf, Sink, SinkFault, put_all};
-
-/// Writes the text of an answer.
-fn deliver<W: Sink>(out: &mut W, answer: &Answer) -> Result<Passed, Halt>
-    ensures passed { IfOk result (λ p. p ≡ answer.now.passed) }
-    ensures whole { OnOk result (AddsWhole (string_bytes answer.now.text) (W.seen out.old).bytes (W.seen out.new).bytes) }
-    ensures calm { OnOk result (IsCalm (W.seen out.old) (W.seen out.new)) }
-    ensures stopped { IfErr result (IsWriteHalt (string_bytes answer.now.text) (W.seen out.old) (W.seen out.new)) }
-{
-    match put_all(out, answer.text.as_bytes()) {
-        Ok(()) => Ok(answer.passed),
-        Err(SinkFault::Failed) => Err(Halt::WriteFault),
-        Err(SinkFault::Memory) => Err(Halt::Memory),
-    }
-}
+use xc_base::{Shelf, Sink, put_all};
 
 /// Reads what the words ask for, works on it, and writes the text.
-#[tactic(auto, using(crate::proofs::Serving::halted, crate::proofs::Serving::delivered))]
+#[tactic(auto, using(crate::proofs::Serving::halted, crate::proofs::Serving::is_ready, crate::proofs::Serving::delivered))]
 fn serve<S: Shelf, W: Sink>(
     alloc: Global,
     words: &[String],
@@ -42,7 +28,7 @@ fn serve<S: Shelf, W: Sink>(
         return Err(Halt::Words);
     };
     let answer = prepare(alloc, &request, shelf)?;
-    deliver(out, &answer)
+    deliver(alloc, out, &answer)
 }
 
 /// Puts a line on err.

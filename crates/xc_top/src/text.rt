@@ -98,7 +98,7 @@ pub(crate) fn refused_file(alloc: Global, name: &str) -> Result<String, AllocErr
     format!(in alloc; "refused file {name}\n")
 }
 
-/// The line for a lattice that breaks a law, where a view names its file.
+/// The line for a lattice that breaks a law, where the request is not to judge it.
 pub(crate) fn refused_broken(
     alloc: Global,
     name: &str,

@@ -1,0 +1,7 @@
+pub mod Rows
+pub mod Telling
+pub mod Lattices
+pub mod Framed
+pub mod Machined
+pub mod Facts
+pub mod Constants

@@ -1,0 +1,15 @@
+use Rattle.std.proofs.Common.{◌∙◌, get_or}
+use Rattle.xc_machine.specs.Machines.{merge_of}
+use Rattle.xc_report.proofs.Telling.{initial_at, state_there, value_there}
+use Rattle.xc_report.proofs.shares.count.Goals as goal
+
+pub at-requires-clause-state : goal.at-requires-clause-state
+at-requires-clause-state g c =
+    state_there (merge_of c.args.told.now.machine.now) c.args.told.now.nodes.now (g.T.Rounds.table c.args.told.now.table.now) c.requires.table (get_or c.as_slice-state-items.result.now c.loop-state.state-index 0)
+    (initial_at (merge_of c.args.told.now.machine.now) c.as_slice-state-items.result.now c.loop-state.state-index (c.as_slice-state-items.ensures ∙ c.initials.ensures.initials) c.loop-state-test.true)
+
+pub gives-requires-clause-value : goal.gives-requires-clause-value
+gives-requires-clause-value g c =
+    rw c.at.ensures
+    (value_there (merge_of c.args.told.now.machine.now) c.args.told.now.nodes.now (g.T.Rounds.table c.args.told.now.table.now) c.requires.table c.args.told.now.node (get_or c.as_slice-state-items.result.now c.loop-state.state-index 0) c.requires.node
+    (initial_at (merge_of c.args.told.now.machine.now) c.as_slice-state-items.result.now c.loop-state.state-index (c.as_slice-state-items.ensures ∙ c.initials.ensures.initials) c.loop-state-test.true))
