@@ -1,5 +1,5 @@
 -- The text of a report on a merged machine: the line of the machine, and a block for each formula.
-use Rattle.std.specs.Prelude.{ℕ, Bool, true, false, ◌==◌, ◌-◌, List, [], ◌∷◌, ◌++◌, length, slice_index, count_by, Option, Some, None, codes}
+use Rattle.std.specs.Prelude.{ℕ, Bool, true, false, ◌==◌, ◌+◌, ◌-◌, List, [], ◌∷◌, ◌++◌, length, slice_index, count_by, Option, Some, None, codes}
 use Rattle.std.specs.List.{flat_map, range_with_len}
 use Rattle.std.specs.Fmt.{decimal}
 use Rattle.xc_theory.specs.Codes.{digits}
@@ -21,11 +21,12 @@ use Rattle.xc_ctl.specs.declared.kind.Kind.TheVariants.{Const, Atom, Not, And, O
 abbrev pub signature_of : Merge → Signature
 signature_of m = record { props = m.plan.props; parts = names_of_parts m; bottom = (product (parts_of m)).bottom; top = (product (parts_of m)).top }
 
--- A line. In a marked report each line is a comment.
+-- what stands before each line: in a marked report each is a comment
 abbrev pub mark : Bool → List ℕ
 mark true = codes "# "
 mark false = []
 
+-- a line of the report
 abbrev pub line : Bool → List ℕ → List ℕ
 line marked text = mark marked ++ text ++ 10 ∷ []
 
@@ -57,6 +58,7 @@ abbrev pub rounds_text : Bool → ℕ → ℕ → Option (List ℕ) → List ℕ
 rounds_text marked node rounds None = []
 rounds_text marked node rounds (Some word) = line marked (codes "rounds " ++ decimal node ++ 32 ∷ word ++ 32 ∷ decimal rounds)
 
+-- what is told of a node by a table: nothing, but for a fixpoint
 abbrev pub node_text : Bool → List Kind → RoundsTable → ℕ → List ℕ
 node_text marked nodes table node = rounds_text marked node (table.rounds node) (kind_word (node_at nodes node))
 
@@ -66,12 +68,13 @@ places_text [] row = []
 places_text (d ∷ vars) [] = []
 places_text (d ∷ vars) (place ∷ row) = 32 ∷ d.name ++ codes "=" ++ name_at d.values place ++ places_text vars row
 
--- the names of the digits of an element, with that byte before the first and a comma before each other
+-- the names of digits in a row, each of its part: that byte stands before the first name, and a comma before each other
 abbrev pub digits_text : ℕ → List (List (List ℕ)) → List ℕ → List ℕ
 digits_text before [] row = []
 digits_text before (names ∷ parts) [] = []
 digits_text before (names ∷ parts) (digit ∷ row) = before ∷ name_at names digit ++ digits_text 44 parts row
 
+-- an element: a blank, and the names of its digits with commas between them
 abbrev pub element_text : Merge → ℕ → List ℕ
 element_text m element = digits_text 32 (names_of_parts m) (digits (sizes (parts_of m)) element)
 
@@ -107,3 +110,13 @@ block_text marked m number nodes table size =
     ++ flat_map (node_text marked nodes table) (range_with_len 0 (length nodes))
     ++ values_text marked m (table.at (length nodes - 1))
     ++ size_text marked size
+
+-- the blocks of formulas, numbered from a number on, each by its table
+abbrev pub blocks_text : Bool → Merge → ℕ → List (List Kind) → List RoundsTable → List ℕ
+blocks_text marked m number [] tables = []
+blocks_text marked m number (nodes ∷ formulas) [] = []
+blocks_text marked m number (nodes ∷ formulas) (table ∷ tables) = block_text marked m number nodes table None ++ blocks_text marked m (number + 1) formulas tables
+
+-- The report: the line of the machine, and behind it the blocks of all formulas.
+abbrev pub report_text : Bool → Merge → ℕ → List (List Kind) → List RoundsTable → List ℕ
+report_text marked m height formulas tables = head_text marked m height ++ blocks_text marked m 1 formulas tables

@@ -20,8 +20,8 @@ use Rattle.xc_ctl.specs.declared.kind.Kind.{Kind}
 use Rattle.xc_machine.specs.Machines.{merge_of}
 use Rattle.xc_machine.specs.declared.machine.Machine.{Machine}
 use Rattle.xc_product.specs.Heights.{AreHeights}
-use Rattle.xc_report.specs.Reports.{head_text, block_text}
-use Rattle.xc_top.specs.Checks.{blocks_text, check_text, AreTables}
+use Rattle.xc_report.specs.Reports.{head_text, block_text, blocks_text, report_text}
+use Rattle.xc_top.specs.Checks.{AreTables}
 use Rattle.xc_top.specs.Outcomes.{Outcome, Served, Reports}
 use Rattle.xc_top.specs.Writing.{CanReport, IsReady, IsStopped, IsWritten, IsBlock, IsHead, WritesBlock, WritesBlocks, WritesReport, WritesOutcome, GoesOn, Gives, Delivers, passed_status}
 use Rattle.xc_top.specs.declared.answer.Answer.{Answer}
@@ -151,7 +151,7 @@ module _ (m : Merge) where
   pub block_written : (number : ℕ) (nodes : List Kind) (text : List ℕ) (old new : Sunk) (result : Result (Unit {0}) Halt) → IsBlock m number nodes text → IsWritten text old new result → WritesBlock m number nodes old new result
   block_written number nodes text old new result is h = record { by = λ table are. subst (λ (t : List ℕ). IsWritten t old new result) (is.by table are) h }
 
-  none_written : (number : ℕ) (now : Sunk) (tables : List RoundsTable) → AreTables (merged_frame m) [] tables → IsWritten {X = Unit {0}} (blocks_text m number [] tables) now now (Ok tt)
+  none_written : (number : ℕ) (now : Sunk) (tables : List RoundsTable) → AreTables (merged_frame m) [] tables → IsWritten {X = Unit {0}} (blocks_text false m number [] tables) now now (Ok tt)
   none_written number now [] are = (whole_of_none now.bytes, record { faults = refl; wants = refl })
   none_written number now (t ∷ tables) are = absurd are
 
@@ -159,18 +159,18 @@ module _ (m : Merge) where
   blocks_none number now = record { by = none_written number now }
 
   module _ (number : ℕ) (nodes : List Kind) (more : List (List Kind)) (now new : Sunk) where
-    all_written : (mid : Sunk) (result : Result (Unit {0}) Halt) → WritesBlock m number nodes now mid (Ok tt) → WritesBlocks m (number + 1) more mid new result → (tables : List RoundsTable) → AreTables (merged_frame m) (nodes ∷ more) tables → IsWritten (blocks_text m number (nodes ∷ more) tables) now new result
+    all_written : (mid : Sunk) (result : Result (Unit {0}) Halt) → WritesBlock m number nodes now mid (Ok tt) → WritesBlocks m (number + 1) more mid new result → (tables : List RoundsTable) → AreTables (merged_frame m) (nodes ∷ more) tables → IsWritten (blocks_text false m number (nodes ∷ more) tables) now new result
     all_written mid result first rest [] are = absurd are
     all_written mid result first rest (t ∷ tables) are =
         let one = first.by t are.0 in
-        written_more (block_text false m number nodes t None) (blocks_text m (number + 1) more tables) now mid new result one.0 one.1 (rest.by tables are.1)
+        written_more (block_text false m number nodes t None) (blocks_text false m (number + 1) more tables) now mid new result one.0 one.1 (rest.by tables are.1)
 
     blocks_on : (mid : Sunk) (result : Result (Unit {0}) Halt) → WritesBlock m number nodes now mid (Ok tt) → WritesBlocks m (number + 1) more mid new result → WritesBlocks m number (nodes ∷ more) now new result
     blocks_on mid result first rest = record { by = all_written mid result first rest }
 
-    some_written : (halt : Halt) → WritesBlock m number nodes now new (Err halt) → (tables : List RoundsTable) → AreTables (merged_frame m) (nodes ∷ more) tables → IsStopped (blocks_text m number (nodes ∷ more) tables) now new halt
+    some_written : (halt : Halt) → WritesBlock m number nodes now new (Err halt) → (tables : List RoundsTable) → AreTables (merged_frame m) (nodes ∷ more) tables → IsStopped (blocks_text false m number (nodes ∷ more) tables) now new halt
     some_written halt first [] are = absurd are
-    some_written halt first (t ∷ tables) are = stopped_before (block_text false m number nodes t None) (blocks_text m (number + 1) more tables) now new halt (first.by t are.0)
+    some_written halt first (t ∷ tables) are = stopped_before (block_text false m number nodes t None) (blocks_text false m (number + 1) more tables) now new halt (first.by t are.0)
 
     blocks_stop : (halt : Halt) → WritesBlock m number nodes now new (Err halt) → WritesBlocks m number (nodes ∷ more) now new (Err halt)
     blocks_stop halt first = record { by = some_written halt first }
@@ -205,18 +205,18 @@ module _ (m : Merge) where
 
   -- a whole report
   pub report_unwritten : (formulas : List (List Kind)) (old : Sunk) → WritesReport m formulas old old (Err Memory)
-  report_unwritten formulas old = record { by = λ heights tables are_heights are. front_of_none (check_text m (sum heights) formulas tables) old.bytes }
+  report_unwritten formulas old = record { by = λ heights tables are_heights are. front_of_none (report_text false m (sum heights) formulas tables) old.bytes }
 
   pub head_stops : (formulas : List (List Kind)) (line : List ℕ) (old new : Sunk) (halt : Halt) → IsHead m line → IsStopped line old new halt → WritesReport m formulas old new (Err halt)
   head_stops formulas line old new halt is h =
-      record { by = λ heights tables are_heights are. stopped_before (head_text false m (sum heights)) (blocks_text m 1 formulas tables) old new halt (subst (λ (t : List ℕ). IsStopped t old new halt) (is.by heights are_heights) h) }
+      record { by = λ heights tables are_heights are. stopped_before (head_text false m (sum heights)) (blocks_text false m 1 formulas tables) old new halt (subst (λ (t : List ℕ). IsStopped t old new halt) (is.by heights are_heights) h) }
 
   pub report_on : (formulas : List (List Kind)) (line : List ℕ) (old mid new : Sunk) (result : Result (Unit {0}) Halt) → IsHead m line → AddsWhole line old.bytes mid.bytes → IsCalm old mid
       → WritesBlocks m 1 formulas mid new result → WritesReport m formulas old new result
   report_on formulas line old mid new result is whole calm rest =
       record {
         by = λ heights tables are_heights are.
-            written_more (head_text false m (sum heights)) (blocks_text m 1 formulas tables) old mid new result (subst (λ (t : List ℕ). AddsWhole t old.bytes mid.bytes) (is.by heights are_heights) whole) calm (rest.by tables are);
+            written_more (head_text false m (sum heights)) (blocks_text false m 1 formulas tables) old mid new result (subst (λ (t : List ℕ). AddsWhole t old.bytes mid.bytes) (is.by heights are_heights) whole) calm (rest.by tables are);
       }
 
 -- an answer

@@ -22,8 +22,8 @@ use Rattle.xc_ctl.specs.Frames.{IsFrame}
 use Rattle.xc_ctl.specs.Tables.{is_table, is_table_in, are_ordered_from}
 use Rattle.xc_ctl.specs.Rounds.{RoundsTable}
 use Rattle.xc_ctl.specs.declared.kind.Kind.{Kind}
-use Rattle.xc_report.specs.Reports.{signature_of, line, head_text, formula_text, node_text, value_text, gives, count_text, share_text, values_text, size_text, block_text}
-use Rattle.xc_top.specs.Checks.{blocks_text, check_text, AreTables}
+use Rattle.xc_report.specs.Reports.{signature_of, line, head_text, formula_text, node_text, value_text, gives, count_text, share_text, values_text, size_text, block_text, blocks_text, report_text}
+use Rattle.xc_top.specs.Checks.{AreTables}
 use Rattle.xc_top.specs.Outcomes.{Outcome, Served, Reports}
 use Rattle.xc_top.specs.declared.status.Status.TheVariants.{Done}
 use Rattle.xc_report.proofs.Lattices.{names_as_many}
@@ -148,14 +148,14 @@ more_formulas m nodes formulas are = record {
 }
 
 -- so formulas have one text
-blocks_same : (m : Merge) (number : ℕ) (formulas : List (List Kind)) (ts us : List RoundsTable) → AreFormulas m formulas → AreTables (merged_frame m) formulas ts → AreTables (merged_frame m) formulas us → blocks_text m number formulas ts ≡ blocks_text m number formulas us
+blocks_same : (m : Merge) (number : ℕ) (formulas : List (List Kind)) (ts us : List RoundsTable) → AreFormulas m formulas → AreTables (merged_frame m) formulas ts → AreTables (merged_frame m) formulas us → blocks_text false m number formulas ts ≡ blocks_text false m number formulas us
 blocks_same m number [] ts us are a b = refl
 blocks_same m number (nodes ∷ formulas) [] us are a b = absurd a
 blocks_same m number (nodes ∷ formulas) (t ∷ ts) [] are a b = absurd b
 blocks_same m number (nodes ∷ formulas) (t ∷ ts) (u ∷ us) are a b =
     let formula = first_formula m nodes formulas are in
     let first : block_text false m number nodes t None ≡ block_text false m number nodes u None = block_same false m number nodes t u None (table_parts nodes formula.ordered).some (tables_tell_same (merged_frame m) nodes t u formula a.0 b.0) in
-    ap (λ (text : List ℕ). text ++ blocks_text m (number + 1) formulas ts) first ∙ ap (λ (text : List ℕ). block_text false m number nodes u None ++ text) (blocks_same m (number + 1) formulas ts us (more_formulas m nodes formulas are) a.1 b.1)
+    ap (λ (text : List ℕ). text ++ blocks_text false m (number + 1) formulas ts) first ∙ ap (λ (text : List ℕ). block_text false m number nodes u None ++ text) (blocks_same m (number + 1) formulas ts us (more_formulas m nodes formulas are) a.1 b.1)
 
 -- the formulas of a file over what is merged
 pub good_formulas : (m : Merge) (rows : List Row) (formulas : List (List Kind)) → IsGood m → IsAccepted (formula_format (signature_of m)) rows formulas → AreFormulas m formulas
@@ -172,7 +172,7 @@ one_report m formulas are o p a b =
     let heights = heights_same (parts_of m) a.heights b.heights a.are_heights b.are_heights in
     let blocks = blocks_same m 1 formulas a.tables b.tables are a.are_tables b.are_tables in
     a.served
-    ∙ ap (λ (hs : List ℕ). Served Done (check_text m (sum hs) formulas a.tables)) heights
+    ∙ ap (λ (hs : List ℕ). Served Done (report_text false m (sum hs) formulas a.tables)) heights
     ∙ ap (λ (text : List ℕ). Served Done (head_text false m (sum b.heights) ++ text)) blocks
     ∙ sym b.served
 
@@ -188,4 +188,4 @@ some_tables m (nodes ∷ formulas) are =
 pub some_report : (m : Merge) (formulas : List (List Kind)) → AreFormulas m formulas → (heights : List ℕ) → AreHeights (parts_of m) heights → (o : Outcome) × Reports m formulas o
 some_report m formulas are heights is =
     let some = some_tables m formulas are in
-    (Served Done (check_text m (sum heights) formulas some.0), record { heights = heights; tables = some.0; are_heights = is; are_tables = some.1; served = refl })
+    (Served Done (report_text false m (sum heights) formulas some.0), record { heights = heights; tables = some.0; are_heights = is; are_tables = some.1; served = refl })

@@ -1,5 +1,5 @@
 -- What serving words comes to, from what preparing and delivering did.
-use Rattle.std.proofs.Common.{◌≡◌, ℕ, List, Option, Some, None, Result, Ok, Err, MatchOption, IsSome, IfSome, IfOk, IfErr, OnOk, inl, refl, sym, ap, subst, arith}
+use Rattle.std.proofs.Common.{◌≡◌, ℕ, List, Option, Some, None, Result, Ok, Err, MatchOption, IsSome, IfSome, inl, inr, refl, sym, ap, subst, arith}
 use Rattle.std.proofs.Math.Seq.{take-append_seam}
 use Rattle.std.specs.String.{string_bytes}
 use Rattle.xc_base.specs.Shelves.{Told, Shelved}
@@ -8,7 +8,7 @@ use Rattle.xc_base.specs.declared.shelf.File.{File}
 use Rattle.xc_top.specs.Requests.{Request, request_of}
 use Rattle.xc_top.specs.Texts.{read_line}
 use Rattle.xc_top.specs.Outcomes.{Outcome, Absent, Refusal, Served, Ends, always, IsCourse, IsOutcome, IsReached}
-use Rattle.xc_top.specs.Headline.{IsServed, IsRefusal, MayRefuse, MayServe, MayLoad, AddsAtMost, FailedOnce, KeepsOrFails}
+use Rattle.xc_top.specs.Headline.{IsServed, IsRefusal, MayRefuse, MayServe, MayWrite, MayLoad, AddsAtMost, FailedOnce, KeepsOrFails}
 use Rattle.xc_top.specs.Writing.{IsReady, Gives, Delivers, WritesOutcome, passed_status}
 use Rattle.xc_top.specs.Working.{IsPrepared, IsWorked, CanEnd, EndsWith, StandsFor}
 use Rattle.xc_top.specs.declared.answer.Answer.{Answer}
@@ -78,7 +78,7 @@ halted words request shelf shelf_after out (ReadFault line) e p = (
   refl,
 )
 halted words request shelf shelf_after out WriteFault e p = absurd p
-halted words request shelf shelf_after out Memory e p = (for_all words shelf.told (AddsAtMost out.bytes out.bytes) (at_most_none out.bytes), λ n. refl, keeps_asked words request shelf shelf_after e p)
+halted words request shelf shelf_after out Memory e p = (for_all words shelf.told (AddsAtMost out.bytes out.bytes) (at_most_none out.bytes), λ n. refl, keeps_asked words request shelf shelf_after e p, inl refl)
 
 no_request : {P : Type 0} (found : Option Request) (request : Request) → Some request ≡ found → found ≡ None → P
 no_request None request e n = cc
@@ -96,6 +96,15 @@ is_ready P (Report machine formulas) h = h.ready
 
 -- where an outcome was served, its text was written, or a front of it
 module _ (words : List (List ℕ)) (request : Request) (shelf shelf_after : Shelved) (old new : Sunk) (e : Some request ≡ request_of words) (same : shelf_after.told ≡ shelf.told) where
+  may_write : (status : Status) (text : List ℕ) (P : List ℕ → Type 0) → CanEnd (IsCourse request) (Served status text) → P text → MayWrite words P
+  may_write status text P can holds = record {
+    moments = can.moments;
+    status = status;
+    text = text;
+    served = subst (λ (r : Option Request). MatchOption r ⊥ (λ q. IsCourse q can.moments (Ends (Served status text)))) e can.ended;
+    holds = holds;
+  }
+
   outcome_delivered : (outcome : Outcome) (result : Result Passed Halt) → EndsWith (IsCourse request) shelf outcome → WritesOutcome outcome old new result → IsWorked words shelf shelf_after old new result
   outcome_delivered (Absent name) result ends w = absurd w
   outcome_delivered (Refusal line) result ends w = absurd w
@@ -107,8 +116,8 @@ module _ (words : List (List ℕ)) (request : Request) (shelf shelf_after : Shel
       calm = w.2;
     },
   )
-  outcome_delivered (Served status text) (Err WriteFault) ends w = (some_request (request_of words) request e, w.0, settled words request shelf.told (Served status text) (IsServed (λ s t. AddsPart t old.bytes new.bytes)) e ends.1 w.1)
-  outcome_delivered (Served status text) (Err Memory) ends w = (settled words request shelf.told (Served status text) (AddsAtMost old.bytes new.bytes) e ends.1 w, no_request (request_of words) request e, keeps_asked words request shelf shelf_after e (inl same))
+  outcome_delivered (Served status text) (Err WriteFault) ends w = (some_request (request_of words) request e, w.0, settled words request shelf.told (Served status text) (IsServed (λ s t. AddsPart t old.bytes new.bytes)) e ends.1 w.1, may_write status text (λ t. AddsPart t old.bytes new.bytes) ends.0 w.1)
+  outcome_delivered (Served status text) (Err Memory) ends w = (settled words request shelf.told (Served status text) (AddsAtMost old.bytes new.bytes) e ends.1 w, no_request (request_of words) request e, keeps_asked words request shelf shelf_after e (inl same), inr (may_write status text (λ t. AddsFront t old.bytes new.bytes) ends.0 w))
   outcome_delivered (Served status text) (Err Words) ends w = absurd w
   outcome_delivered (Served status text) (Err (Refused line)) ends w = absurd w
   outcome_delivered (Served status text) (Err (ReadFault line)) ends w = absurd w

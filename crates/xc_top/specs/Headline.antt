@@ -81,11 +81,20 @@ pub record AnswersReadFault (words : List (List ℕ)) (shelf shelf_after : Shelv
   pub once : status ≡ ReadFault → IfSome (request_of words) (λ request. FailedOnce (IsCourse request) shelf shelf_after (λ name. GetsLine (read_line name) err err_after))
   pub out : status ≡ ReadFault → AddsNothing old.bytes new.bytes
 
+-- where each load finds some files, the outcome is served, and P holds of its text
+pub record MayWrite (words : List (List ℕ)) (P : List ℕ → Type 0) : Type 0 where
+  pub moments : ℕ → List File
+  pub status : Status
+  pub text : List ℕ
+  pub served : MatchOption (request_of words) ⊥ (λ request. IsCourse request moments (Ends (Served status text)))
+  pub holds : P text
+
 -- Where the status is WriteFault, out's count of faults rose, the outcome is served, and out has a front of its text but not
--- all.
+-- all. Over a shelf that tells no files it is so where each load finds some files.
 pub record AnswersWriteFault (words : List (List ℕ)) (shelf : Shelved) (old new : Sunk) (status : Status) : Type 0 where
   pub counted : status ≡ WriteFault → HasRisen old.faults new.faults
   pub part : status ≡ WriteFault → ForOutcome words shelf (IsServed (λ s text. AddsPart text old.bytes new.bytes))
+  pub may : status ≡ WriteFault → MayWrite words (λ text. AddsPart text old.bytes new.bytes)
 
 -- out gets a front of the text of a served outcome, and else nothing
 abbrev pub AddsAtMost : Option (List ℕ) → Option (List ℕ) → Outcome → Type 0
@@ -93,9 +102,12 @@ AddsAtMost old new (Served status text) = AddsFront text old new
 AddsAtMost old new (Absent name) = AddsNothing old new
 AddsAtMost old new (Refusal line) = AddsNothing old new
 
+-- Where the status is Memory, out has a front of the text of a served outcome at most, and nothing where nothing was asked. Over a
+-- shelf that tells no files out has nothing, or a front of the text where each load finds some files.
 pub record AnswersMemory (words : List (List ℕ)) (shelf : Shelved) (old new : Sunk) (status : Status) : Type 0 where
   pub asked : status ≡ Memory → ForOutcome words shelf (AddsAtMost old.bytes new.bytes)
   pub unasked : status ≡ Memory → request_of words ≡ None → AddsNothing old.bytes new.bytes
+  pub may : status ≡ Memory → AddsNothing old.bytes new.bytes ⊎ MayWrite words (λ text. AddsFront text old.bytes new.bytes)
 
 -- the status that an outcome has where nothing fails
 abbrev pub status_of : Outcome → Status

@@ -1,5 +1,5 @@
 -- The outcome of a request over files: that of the first of its tasks that refuses, or that loads what is not there.
-use Rattle.std.specs.Prelude.{◌≡◌, ℕ, suc, List, MatchOption, [], ◌∷◌, ◌++◌, map, sum, Option, Some, None, ◌⊎◌, nat_lt, if◌then◌else◌}
+use Rattle.std.specs.Prelude.{◌≡◌, ℕ, suc, false, List, MatchOption, [], ◌∷◌, ◌++◌, map, sum, Option, Some, None, ◌⊎◌, nat_lt, if◌then◌else◌}
 use Rattle.xc_base.specs.Canonical.{canonical}
 use Rattle.xc_base.specs.Formats.{Row, IsAccepted, IsFirstFault}
 use Rattle.xc_base.specs.Lines.{text_rows}
@@ -26,8 +26,8 @@ use Rattle.xc_ctl.specs.FormulaFiles.{formula_format}
 use Rattle.xc_ctl.specs.declared.kind.Kind.{Kind}
 use Rattle.xc_top.specs.Requests.{Request, LatticeOf, CheckOf, ShowOf, ShowKind, LatticeFile, ViewFile, MapFile, request_of}
 use Rattle.xc_top.specs.Texts.{lattice_text, broken_text, file_line, broken_line, merge_line, states_line}
-use Rattle.xc_report.specs.Reports.{signature_of}
-use Rattle.xc_top.specs.Checks.{state_limit, AreTables, check_text}
+use Rattle.xc_report.specs.Reports.{signature_of, report_text}
+use Rattle.xc_top.specs.Checks.{state_limit, AreTables}
 use Rattle.xc_top.specs.declared.status.Status.{Status}
 use Rattle.xc_top.specs.declared.status.Status.TheVariants.{Done, No}
 
@@ -144,7 +144,7 @@ pub record Reports (m : Merge) (formulas : List (List Kind)) (outcome : Outcome)
   pub tables : List RoundsTable
   pub are_heights : AreHeights (parts_of m) heights
   pub are_tables : AreTables (merged_frame m) formulas tables
-  pub served : outcome ≡ Served Done (check_text m (sum heights) formulas tables)
+  pub served : outcome ≡ Served Done (report_text false m (sum heights) formulas tables)
 
 -- The limit of states: where there are too many it is refused, and else the values are for out.
 abbrev pub Evaluates : Merge → List (List Kind) → Event → Type 0

@@ -22,9 +22,9 @@ use Rattle.xc_ctl.specs.Formulas.{nodes_in}
 use Rattle.xc_ctl.specs.declared.formula.Formulas.{Formulas}
 use Rattle.xc_top.specs.Requests.{request_of}
 use Rattle.xc_top.specs.Texts.{read_line, file_line, broken_line, merge_line, value_line, name_line, total_line, product_line, no_initial_line, initial_line}
-use Rattle.xc_top.specs.Headline.{FailedOnce, KeepsOrFails, ForOutcome, IsRefusal, IsServed, MayRefuse, Serves, MayLoad, AddsAtMost, GetsLine}
+use Rattle.xc_top.specs.Headline.{FailedOnce, KeepsOrFails, ForOutcome, IsRefusal, IsServed, MayRefuse, Serves, MayLoad, AddsAtMost, GetsLine, MayWrite}
 use Rattle.xc_top.specs.Asked.{halt_status, halt_line}
-use Rattle.xc_base.specs.Sinks.{Sunk, AddsPart, AddsNothing}
+use Rattle.xc_base.specs.Sinks.{Sunk, AddsPart, AddsNothing, AddsFront}
 use Rattle.xc_top.specs.declared.halt.Halt.{Halt}
 use Rattle.xc_top.specs.declared.halt.Halt.TheVariants.{Words, Refused, ReadFault, WriteFault, Memory}
 use Rattle.xc_top.specs.declared.answer.Answer.{Answer}
@@ -116,8 +116,8 @@ IsWorked words shelf shelf_after old new (Ok passed) = IsSome (request_of words)
 IsWorked words shelf shelf_after old new (Err Words) = (request_of words ≡ None) × AddsNothing old.bytes new.bytes
 IsWorked words shelf shelf_after old new (Err (Refused line)) = IsSome (request_of words) × MayRefuse words (string_bytes line) × ForOutcome words shelf (IsRefusal (λ l. string_bytes line ≡ l)) × AddsNothing old.bytes new.bytes
 IsWorked words shelf shelf_after old new (Err (ReadFault line)) = IsSome (request_of words) × NamesLoad words (string_bytes line) × HasRisen shelf.faults shelf_after.faults × IfSome (request_of words) (λ request. FailedOnce (IsCourse request) shelf shelf_after (λ name. string_bytes line ≡ read_line name)) × AddsNothing old.bytes new.bytes
-IsWorked words shelf shelf_after old new (Err WriteFault) = IsSome (request_of words) × HasRisen old.faults new.faults × ForOutcome words shelf (IsServed (λ status text. AddsPart text old.bytes new.bytes))
-IsWorked words shelf shelf_after old new (Err Memory) = ForOutcome words shelf (AddsAtMost old.bytes new.bytes) × (request_of words ≡ None → AddsNothing old.bytes new.bytes) × MatchOption (request_of words) (shelf_after.told ≡ shelf.told) (λ request. KeepsOrFails (IsCourse request) shelf shelf_after)
+IsWorked words shelf shelf_after old new (Err WriteFault) = IsSome (request_of words) × HasRisen old.faults new.faults × ForOutcome words shelf (IsServed (λ status text. AddsPart text old.bytes new.bytes)) × MayWrite words (λ text. AddsPart text old.bytes new.bytes)
+IsWorked words shelf shelf_after old new (Err Memory) = ForOutcome words shelf (AddsAtMost old.bytes new.bytes) × (request_of words ≡ None → AddsNothing old.bytes new.bytes) × MatchOption (request_of words) (shelf_after.told ≡ shelf.told) (λ request. KeepsOrFails (IsCourse request) shelf shelf_after) × (AddsNothing old.bytes new.bytes ⊎ MayWrite words (λ text. AddsFront text old.bytes new.bytes))
 
 -- but where a load failed, and for want of memory, the shelf tells what it told before
 abbrev pub LeavesShelf : {X : Type 0} → Option Told → Option Told → Result X Halt → Type 0

@@ -16,8 +16,8 @@ use Rattle.xc_ctl.specs.Formulas.{nodes_in}
 use Rattle.xc_ctl.specs.FormulaFiles.{formula_limit}
 use Rattle.xc_ctl.specs.declared.formula.Formulas.{Formulas}
 use Rattle.xc_ctl.specs.declared.kind.Kind.{Kind}
-use Rattle.xc_report.specs.Reports.{head_text, block_text}
-use Rattle.xc_top.specs.Checks.{state_limit, blocks_text, check_text, AreTables}
+use Rattle.xc_report.specs.Reports.{head_text, block_text, blocks_text, report_text}
+use Rattle.xc_top.specs.Checks.{state_limit, AreTables}
 use Rattle.xc_top.specs.Outcomes.{Outcome, Absent, Refusal, Served, Reports}
 use Rattle.xc_top.specs.declared.halt.Halt.{Halt}
 use Rattle.xc_top.specs.declared.halt.Halt.TheVariants.{Words, Refused, ReadFault, WriteFault, Memory}
@@ -69,10 +69,10 @@ pub record WritesBlock (m : Merge) (number : ℕ) (nodes : List Kind) (old new :
   pub by : (table : RoundsTable) → IsTableFor (merged_frame m) nodes table → IsWritten (block_text false m number nodes table None) old new result
 
 pub record WritesBlocks (m : Merge) (number : ℕ) (formulas : List (List Kind)) (old new : Sunk) (result : Result (Unit {0}) Halt) : Type 0 where
-  pub by : (tables : List RoundsTable) → AreTables (merged_frame m) formulas tables → IsWritten (blocks_text m number formulas tables) old new result
+  pub by : (tables : List RoundsTable) → AreTables (merged_frame m) formulas tables → IsWritten (blocks_text false m number formulas tables) old new result
 
 pub record WritesReport (m : Merge) (formulas : List (List Kind)) (old new : Sunk) (result : Result (Unit {0}) Halt) : Type 0 where
-  pub by : (heights : List ℕ) (tables : List RoundsTable) → AreHeights (parts_of m) heights → AreTables (merged_frame m) formulas tables → IsWritten (check_text m (sum heights) formulas tables) old new result
+  pub by : (heights : List ℕ) (tables : List RoundsTable) → AreHeights (parts_of m) heights → AreTables (merged_frame m) formulas tables → IsWritten (report_text false m (sum heights) formulas tables) old new result
 
 -- where the blocks that are left are written from there on, all blocks are
 pub record GoesOn (m : Merge) (number : ℕ) (left formulas : List (List Kind)) (now old : Sunk) : Type 0 where
