@@ -1,5 +1,6 @@
 -- The texts of a report at small cases that are known from outside: a wrong definition does not check here.
-use Rattle.std.proofs.Common.{◌≡◌, ℕ, ◌+◌, List, [], ◌∷◌, ◌++◌, true, false, Some, None, codes, refl}
+use Rattle.std.specs.Prelude.{if◌then◌else◌}
+use Rattle.std.proofs.Common.{◌≡◌, ℕ, ◌+◌, List, [], ◌∷◌, ◌++◌, true, false, Some, None, codes, refl, ◌==◌}
 use Rattle.std.specs.Fmt.{digits}
 use Rattle.xc_theory.specs.Bounds.{first_meet, first_join}
 use Rattle.xc_theory.proofs.Facts.{two, chain}
@@ -50,9 +51,9 @@ merge view =
 abbrev pair : Merge
 pair = merge narrow
 
--- a table of three nodes with that value everywhere, and two rounds at each fixpoint
-abbrev told : ℕ → RoundsTable
-told value = record { states = 2; nodes = 3; at = λ i s. value; rounds = λ i. 2; round_at = λ i k s. value }
+-- a table in which the node of that number has that value everywhere, the others another, and each node as many rounds as its number
+abbrev told : ℕ → ℕ → RoundsTable
+told node value = record { states = 2; nodes = node + 1; at = λ i s. if i == node then value else 1; rounds = λ i. i; round_at = λ i k s. value }
 
 -- what its formulas are about
 pub signature_of_pair : ((signature_of pair).top ≡ 5) × ((signature_of pair).bottom ≡ 0) × ((signature_of pair).props ≡ codes "p" ∷ [])
@@ -76,7 +77,7 @@ unfolding digits initials_of
 shares = (refl, refl, refl)
 
 -- rounds of fixpoints alone
-pub rounds : (node_text false (Const 5 ∷ Atom 0 ∷ Eu 0 1 ∷ []) (told 0) 1 ≡ []) × (node_text false (Const 5 ∷ Atom 0 ∷ Au 0 1 ∷ []) (told 0) 2 ≡ lines (codes "rounds 2 AU 2")) × (node_text true (Atom 0 ∷ Not 0 ∷ Eg 1 ∷ []) (told 0) 2 ≡ lines (codes "# rounds 2 EG 2"))
+pub rounds : (node_text false (Const 5 ∷ Atom 0 ∷ Eu 0 1 ∷ []) (told 2 0) 1 ≡ []) × (node_text false (Const 5 ∷ Atom 0 ∷ Au 0 1 ∷ []) (told 2 0) 2 ≡ lines (codes "rounds 2 AU 2")) × (node_text true (Atom 0 ∷ Not 0 ∷ Eg 1 ∷ []) (told 2 0) 2 ≡ lines (codes "# rounds 2 EG 2"))
 unfolding digits
 rounds = (refl, refl, refl)
 
@@ -86,22 +87,22 @@ unfolding digits
 diagrams = (refl, refl, refl)
 
 -- whole blocks
-pub next_states : block_text false pair 1 (Atom 0 ∷ Ex 0 ∷ []) (told 4) None
+pub next_states : block_text false pair 1 (Atom 0 ∷ Ex 0 ∷ []) (told 1 4) None
     ≡ lines (codes "formula 1 EX p") ++ lines (codes "value 0 x=0 T,M") ++ lines (codes "share alice F=0 T=1") ++ lines (codes "share bob F=0 M=1 T=0")
 unfolding digits first_meet first_join initials_of product trees_of spaced
 next_states = refl
 
-pub reached : block_text false pair 3 (Const 5 ∷ Atom 0 ∷ Eu 0 1 ∷ []) (told 4) (Some 1)
+pub reached : block_text false pair 3 (Const 5 ∷ Atom 0 ∷ Eu 0 1 ∷ []) (told 2 4) (Some 1)
     ≡ lines (codes "formula 3 E[true U p]") ++ lines (codes "rounds 2 EU 2") ++ lines (codes "value 0 x=0 T,M") ++ lines (codes "share alice F=0 T=1") ++ lines (codes "share bob F=0 M=1 T=0") ++ lines (codes "diagram 1")
 unfolding digits first_meet first_join initials_of product trees_of spaced
 reached = refl
 
-pub kept : block_text true pair 4 (Atom 0 ∷ Not 0 ∷ Eg 1 ∷ []) (told 0) None
+pub kept : block_text true pair 4 (Atom 0 ∷ Not 0 ∷ Eg 1 ∷ []) (told 2 0) None
     ≡ lines (codes "# formula 4 EG!p") ++ lines (codes "# rounds 2 EG 2") ++ lines (codes "# value 0 x=0 F,F") ++ lines (codes "# share alice F=1 T=0") ++ lines (codes "# share bob F=1 M=0 T=0")
 unfolding digits first_meet first_join initials_of product trees_of spaced
 kept = refl
 
-pub named : block_text false pair 1 (Const 4 ∷ Atom 0 ∷ Not 1 ∷ And 0 2 ∷ []) (told 4) None
+pub named : block_text false pair 1 (Const 4 ∷ Atom 0 ∷ Not 1 ∷ And 0 2 ∷ []) (told 3 4) None
     ≡ lines (codes "formula 1 {T,M}&!p") ++ lines (codes "value 0 x=0 T,M") ++ lines (codes "share alice F=0 T=1") ++ lines (codes "share bob F=0 M=1 T=0")
 unfolding digits first_meet first_join initials_of product trees_of spaced
 named = refl
@@ -112,7 +113,7 @@ unfolding digits initials_of
 told_of_values = refl
 
 -- a whole report: the line of the machine, then the formulas, numbered from 1 on
-pub reported : report_text false pair 3 ((Atom 0 ∷ Ex 0 ∷ []) ∷ (Const 5 ∷ []) ∷ []) (told 4 ∷ told 5 ∷ [])
+pub reported : report_text false pair 3 ((Atom 0 ∷ Ex 0 ∷ []) ∷ (Const 5 ∷ []) ∷ []) (told 1 4 ∷ told 0 5 ∷ [])
     ≡ lines (codes "map pair states 2 elements 6 height 3 initial 1") ++ lines (codes "formula 1 EX p") ++ lines (codes "value 0 x=0 T,M") ++ lines (codes "share alice F=0 T=1") ++ lines (codes "share bob F=0 M=1 T=0")
     ++ lines (codes "formula 2 true") ++ lines (codes "value 0 x=0 T,T") ++ lines (codes "share alice F=0 T=1") ++ lines (codes "share bob F=0 M=0 T=1")
 unfolding digits first_meet first_join initials_of product trees_of spaced

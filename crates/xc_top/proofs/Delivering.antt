@@ -105,7 +105,7 @@ whole_of_none (Some bytes) = ap Some (sym (append-nil bytes))
 -- a text behind another
 stopped_later : (a b : List ℕ) (old mid new : Sunk) (halt : Halt) → AddsWhole a old.bytes mid.bytes → IsCalm old mid → IsStopped b mid new halt → IsStopped (a ++ b) old new halt
 stopped_later a b old mid new WriteFault whole calm h = (subst (λ (n : ℕ). HasRisen n new.faults) calm.faults h.0, whole_part a b old.bytes mid.bytes new.bytes whole h.1)
-stopped_later a b old mid new Memory whole calm h = whole_front a b old.bytes mid.bytes new.bytes whole h
+stopped_later a b old mid new Memory whole calm h = (whole_front a b old.bytes mid.bytes new.bytes whole h.0, h.1 ∙ calm.faults)
 stopped_later a b old mid new Words whole calm h = h
 stopped_later a b old mid new (Refused line) whole calm h = h
 stopped_later a b old mid new (ReadFault line) whole calm h = h
@@ -117,7 +117,7 @@ written_more a b old mid new (Err halt) whole calm h = stopped_later a b old mid
 -- a text that was not written whole, whatever comes behind it
 stopped_before : (a b : List ℕ) (old new : Sunk) (halt : Halt) → IsStopped a old new halt → IsStopped (a ++ b) old new halt
 stopped_before a b old new WriteFault h = (h.0, part_more a b old.bytes new.bytes h.1)
-stopped_before a b old new Memory h = front_more a b old.bytes new.bytes h
+stopped_before a b old new Memory h = (front_more a b old.bytes new.bytes h.0, h.1)
 stopped_before a b old new Words h = h
 stopped_before a b old new (Refused line) h = h
 stopped_before a b old new (ReadFault line) h = h
@@ -146,7 +146,7 @@ module _ (m : Merge) where
   is_head text is = record { by = is }
 
   pub block_unwritten : (number : ℕ) (nodes : List Kind) (old : Sunk) → WritesBlock m number nodes old old (Err Memory)
-  block_unwritten number nodes old = record { by = λ table are. front_of_none (block_text false m number nodes table None) old.bytes }
+  block_unwritten number nodes old = record { by = λ table are. (front_of_none (block_text false m number nodes table None) old.bytes, refl) }
 
   pub block_written : (number : ℕ) (nodes : List Kind) (text : List ℕ) (old new : Sunk) (result : Result (Unit {0}) Halt) → IsBlock m number nodes text → IsWritten text old new result → WritesBlock m number nodes old new result
   block_written number nodes text old new result is h = record { by = λ table are. subst (λ (t : List ℕ). IsWritten t old new result) (is.by table are) h }
@@ -205,7 +205,7 @@ module _ (m : Merge) where
 
   -- a whole report
   pub report_unwritten : (formulas : List (List Kind)) (old : Sunk) → WritesReport m formulas old old (Err Memory)
-  report_unwritten formulas old = record { by = λ heights tables are_heights are. front_of_none (report_text false m (sum heights) formulas tables) old.bytes }
+  report_unwritten formulas old = record { by = λ heights tables are_heights are. (front_of_none (report_text false m (sum heights) formulas tables) old.bytes, refl) }
 
   pub head_stops : (formulas : List (List Kind)) (line : List ℕ) (old new : Sunk) (halt : Halt) → IsHead m line → IsStopped line old new halt → WritesReport m formulas old new (Err halt)
   head_stops formulas line old new halt is h =

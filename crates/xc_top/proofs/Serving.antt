@@ -78,7 +78,7 @@ halted words request shelf shelf_after out (ReadFault line) e p = (
   refl,
 )
 halted words request shelf shelf_after out WriteFault e p = absurd p
-halted words request shelf shelf_after out Memory e p = (for_all words shelf.told (AddsAtMost out.bytes out.bytes) (at_most_none out.bytes), λ n. refl, keeps_asked words request shelf shelf_after e p, inl refl)
+halted words request shelf shelf_after out Memory e p = (for_all words shelf.told (AddsAtMost out.bytes out.bytes) (at_most_none out.bytes), λ n. refl, keeps_asked words request shelf shelf_after e p, inl refl, refl)
 
 no_request : {P : Type 0} (found : Option Request) (request : Request) → Some request ≡ found → found ≡ None → P
 no_request None request e n = cc
@@ -117,7 +117,7 @@ module _ (words : List (List ℕ)) (request : Request) (shelf shelf_after : Shel
     },
   )
   outcome_delivered (Served status text) (Err WriteFault) ends w = (some_request (request_of words) request e, w.0, settled words request shelf.told (Served status text) (IsServed (λ s t. AddsPart t old.bytes new.bytes)) e ends.1 w.1, may_write status text (λ t. AddsPart t old.bytes new.bytes) ends.0 w.1)
-  outcome_delivered (Served status text) (Err Memory) ends w = (settled words request shelf.told (Served status text) (AddsAtMost old.bytes new.bytes) e ends.1 w, no_request (request_of words) request e, keeps_asked words request shelf shelf_after e (inl same), inr (may_write status text (λ t. AddsFront t old.bytes new.bytes) ends.0 w))
+  outcome_delivered (Served status text) (Err Memory) ends w = (settled words request shelf.told (Served status text) (AddsAtMost old.bytes new.bytes) e ends.1 w.0, no_request (request_of words) request e, keeps_asked words request shelf shelf_after e (inl same), inr (may_write status text (λ t. AddsFront t old.bytes new.bytes) ends.0 w.0), w.1)
   outcome_delivered (Served status text) (Err Words) ends w = absurd w
   outcome_delivered (Served status text) (Err (Refused line)) ends w = absurd w
   outcome_delivered (Served status text) (Err (ReadFault line)) ends w = absurd w

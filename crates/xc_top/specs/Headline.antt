@@ -103,11 +103,12 @@ AddsAtMost old new (Absent name) = AddsNothing old new
 AddsAtMost old new (Refusal line) = AddsNothing old new
 
 -- Where the status is Memory, out has a front of the text of a served outcome at most, and nothing where nothing was asked. Over a
--- shelf that tells no files out has nothing, or a front of the text where each load finds some files.
+-- shelf that tells no files out has nothing, or a front of the text where each load finds some files. No put failed.
 pub record AnswersMemory (words : List (List ℕ)) (shelf : Shelved) (old new : Sunk) (status : Status) : Type 0 where
   pub asked : status ≡ Memory → ForOutcome words shelf (AddsAtMost old.bytes new.bytes)
   pub unasked : status ≡ Memory → request_of words ≡ None → AddsNothing old.bytes new.bytes
   pub may : status ≡ Memory → AddsNothing old.bytes new.bytes ⊎ MayWrite words (λ text. AddsFront text old.bytes new.bytes)
+  pub calm : status ≡ Memory → new.faults ≡ old.faults
 
 -- the status that an outcome has where nothing fails
 abbrev pub status_of : Outcome → Status

@@ -117,7 +117,7 @@ IsWorked words shelf shelf_after old new (Err Words) = (request_of words ≡ Non
 IsWorked words shelf shelf_after old new (Err (Refused line)) = IsSome (request_of words) × MayRefuse words (string_bytes line) × ForOutcome words shelf (IsRefusal (λ l. string_bytes line ≡ l)) × AddsNothing old.bytes new.bytes
 IsWorked words shelf shelf_after old new (Err (ReadFault line)) = IsSome (request_of words) × NamesLoad words (string_bytes line) × HasRisen shelf.faults shelf_after.faults × IfSome (request_of words) (λ request. FailedOnce (IsCourse request) shelf shelf_after (λ name. string_bytes line ≡ read_line name)) × AddsNothing old.bytes new.bytes
 IsWorked words shelf shelf_after old new (Err WriteFault) = IsSome (request_of words) × HasRisen old.faults new.faults × ForOutcome words shelf (IsServed (λ status text. AddsPart text old.bytes new.bytes)) × MayWrite words (λ text. AddsPart text old.bytes new.bytes)
-IsWorked words shelf shelf_after old new (Err Memory) = ForOutcome words shelf (AddsAtMost old.bytes new.bytes) × (request_of words ≡ None → AddsNothing old.bytes new.bytes) × MatchOption (request_of words) (shelf_after.told ≡ shelf.told) (λ request. KeepsOrFails (IsCourse request) shelf shelf_after) × (AddsNothing old.bytes new.bytes ⊎ MayWrite words (λ text. AddsFront text old.bytes new.bytes))
+IsWorked words shelf shelf_after old new (Err Memory) = ForOutcome words shelf (AddsAtMost old.bytes new.bytes) × (request_of words ≡ None → AddsNothing old.bytes new.bytes) × MatchOption (request_of words) (shelf_after.told ≡ shelf.told) (λ request. KeepsOrFails (IsCourse request) shelf shelf_after) × (AddsNothing old.bytes new.bytes ⊎ MayWrite words (λ text. AddsFront text old.bytes new.bytes)) × (new.faults ≡ old.faults)
 
 -- but where a load failed, and for want of memory, the shelf tells what it told before
 abbrev pub LeavesShelf : {X : Type 0} → Option Told → Option Told → Result X Halt → Type 0

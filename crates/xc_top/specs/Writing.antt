@@ -46,7 +46,7 @@ pub record CanReport (m : Merge) (formulas : List (List Kind)) : Type 0 where
 -- why a text was not written whole
 abbrev pub IsStopped : List ℕ → Sunk → Sunk → Halt → Type 0
 IsStopped text old new WriteFault = HasRisen old.faults new.faults × AddsPart text old.bytes new.bytes
-IsStopped text old new Memory = AddsFront text old.bytes new.bytes
+IsStopped text old new Memory = AddsFront text old.bytes new.bytes × (new.faults ≡ old.faults)
 IsStopped text old new Words = ⊥
 IsStopped text old new (Refused line) = ⊥
 IsStopped text old new (ReadFault line) = ⊥

@@ -174,11 +174,17 @@ fn reports(rt: HostRuntime) -> Result<(), Fail> {
 
 #[test]
 fn puts_that_fail(rt: HostRuntime) -> Result<(), Fail> {
-    for put in [1, 2, 5, 9, 20, 31] {
-        let lines = [PAIR_FORMULAS];
+    for (sigmap, formulas, put) in [
+        ("pair.map", PAIR_FORMULAS, 1),
+        ("pair.map", PAIR_FORMULAS, 2),
+        ("pair.map", PAIR_FORMULAS, 5),
+        ("pair.map", PAIR_FORMULAS, 20),
+        ("pair.map", PAIR_FORMULAS, 31),
+    ] {
+        let lines = [formulas];
         let files = [one("x.ctl", lines.as_slice())];
         let fails = Fails { load: 99, put };
-        let ran = run_check(rt.alloc(), "pair.map", "x.ctl", files.as_slice(), fails)?;
+        let ran = run_check(rt.alloc(), sigmap, "x.ctl", files.as_slice(), fails)?;
         assert_eq!(rt; ran.status, Status::WriteFault, "{put}");
         let out = ran.out.bytes();
         assert!(rt; PAIR_REPORT.as_bytes().starts_with(out));
