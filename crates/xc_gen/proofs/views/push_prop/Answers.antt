@@ -1,0 +1,9 @@
+use Rattle.std.proofs.Common.{codes}
+use Rattle.xc_gen.specs.Generated.{has_value}
+use Rattle.xc_gen.proofs.Rows.{three_pushed}
+use Rattle.xc_gen.proofs.views.push_prop.Goals as goal
+
+pub returns : goal.returns
+returns c =
+    three_pushed c.push_words-2.result c.args.text.now (codes "prop last T when ") (has_value c.args.last 1) (codes "\n") _ _ _
+    c.in_ok-push_words.ensures c.in_ok-push_test.ensures c.push_words-2.ensures
