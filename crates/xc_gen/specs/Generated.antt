@@ -25,7 +25,7 @@ chain_text =
     ++ line (codes "not M M")
     ++ line (codes "not T F")
 
--- the diamond of four elements, each of its two middle ones its own negation
+-- the diamond of four elements, where each of the two middle ones is its own negation
 unfoldable pub diamond_text : List ℕ
 diamond_text =
     line (codes "lattice diamond")
@@ -53,14 +53,14 @@ abbrev pub weight : Side → ℕ → ℕ → List ℕ
 weight Left number i = if (number + i) % 5 == 0 then codes "M" else codes "T"
 weight Right number i = if (number + i) % 7 == 0 then codes "N" else if (number + i) % 7 == 5 then codes "B" else codes "T"
 
--- the variable of bit i, and the test whether it has that value
+-- the variable of bit i, and the phrase that it has that value
 abbrev pub bit : ℕ → List ℕ
 bit i = codes "b" ++ decimal i
 
 unfoldable pub has_value : ℕ → ℕ → List ℕ
 has_value i value = bit i ++ codes "=" ++ decimal value
 
--- the test whether bit i is 0, and all lower bits have that value
+-- the phrase that bit i is 0, and all lower bits have that value
 abbrev pub is_lowest : ℕ → ℕ → List ℕ
 is_lowest i value = flat_map (λ j. has_value j value ++ codes "&") (range_with_len 0 i) ++ has_value i 0
 

@@ -51,10 +51,10 @@ fn filled(alloc: Global, number: u32, size: u32) -> Result<MemoryShelf, Memory>
 }
 
 /// A shelf of the files for a number and a size, and of no others: two lattices, a view over each, the map that merges both,
-/// and formulas. No call of it is to fail.
+/// and formulas. Its loads fail only at names that it does not hold.
 ///
-/// The size is the number of bits of a counter. It is refused where it is none from 1 to 20. Else the answer may be that
-/// there is no memory.
+/// The size is the number of bits of a counter, and the number decides the weights of the commands. A size is refused, with
+/// its number, where it is none from 1 to 20. Else it may fail for want of memory.
 pub fn make(alloc: Global, number: u32, size: u32) -> Result<MemoryShelf, GenFault>
     ensures within { OnOk result (is_size size ≡ true) }
     ensures files { IfOk result (λ shelf. shelf ≡ generated number size) }

@@ -4,7 +4,7 @@ ghost use Rattle.std.specs.Prelude.{◌≡◌, ◌++◌, IfOk, OnOk};
 ghost use Rattle.std.specs.List.{flat_map, range_with_len};
 ghost use Rattle.xc_gen.specs.Generated.{send_line, map_text};
 
-use crate::pieces::{push_number, push_vars, push_words};
+use crate::pieces::{push_number, push_piece, push_vars};
 use crate::side::Side;
 use std::alloc::Global;
 use xc_base::{Bytes, List, Memory};
@@ -13,11 +13,11 @@ use xc_base::{Bytes, List, Memory};
 fn push_send(alloc: Global, text: &mut Bytes, side: Side, bit: u32) -> Result<(), Memory>
     ensures { OnOk result (text.new ≡ text.old ++ send_line side bit) }
 {
-    push_words(text, "send ")?;
-    push_words(text, side.name())?;
+    push_piece(text, "send ")?;
+    push_piece(text, side.name())?;
     push_number(alloc, text, " b", bit)?;
     push_number(alloc, text, " b", bit)?;
-    push_words(text, "\n")
+    push_piece(text, "\n")
 }
 
 // Appends the lines by which that many bits go to a viewpoint.
@@ -37,14 +37,14 @@ pub(crate) fn map_text(alloc: Global, size: u32) -> Result<Bytes, Memory>
     ensures { IfOk result (λ text. text ≡ map_text size) }
 {
     let mut text = List::new(alloc);
-    push_words(
+    push_piece(
         &mut text,
         "map gen\nuse left left.view\nuse right right.view\n",
     )?;
     push_vars(alloc, &mut text, size)?;
-    push_words(&mut text, "prop last\n")?;
+    push_piece(&mut text, "prop last\n")?;
     push_sends(alloc, &mut text, Side::Left, size)?;
     push_sends(alloc, &mut text, Side::Right, size)?;
-    push_words(&mut text, "tell left last last\ntell right last last\n")?;
+    push_piece(&mut text, "tell left last last\ntell right last last\n")?;
     Ok(text)
 }

@@ -5,7 +5,7 @@ ghost use Rattle.std.specs.List.{flat_map, range_with_len};
 ghost use Rattle.std.specs.Fmt.{decimal};
 ghost use Rattle.xc_gen.specs.Generated.{line, name_of, lattice_of, weight, bit as bit_text, has_value, is_lowest, command_line, view_text};
 
-use crate::pieces::{push_lowest, push_number, push_test, push_vars, push_words};
+use crate::pieces::{push_lowest, push_number, push_phrase, push_piece, push_vars};
 use crate::side::Side;
 use std::alloc::Global;
 use xc_base::{Bytes, List, Memory};
@@ -14,29 +14,29 @@ use xc_base::{Bytes, List, Memory};
 fn push_viewpoint(text: &mut Bytes, side: Side) -> Result<(), Memory>
     ensures { OnOk result (text.new ≡ text.old ++ line (codes "view " ++ name_of side) ++ line (codes "lattice " ++ lattice_of side)) }
 {
-    push_words(text, "view ")?;
-    push_words(text, side.name())?;
-    push_words(text, "\nlattice ")?;
-    push_words(text, side.lattice())?;
-    push_words(text, "\n")
+    push_piece(text, "view ")?;
+    push_piece(text, side.name())?;
+    push_piece(text, "\nlattice ")?;
+    push_piece(text, side.lattice())?;
+    push_piece(text, "\n")
 }
 
 // Appends the line by which that bit and all lower ones are 0 at first.
 fn push_init(alloc: Global, text: &mut Bytes, last: u32) -> Result<(), Memory>
     ensures { OnOk result (text.new ≡ text.old ++ line (codes "init " ++ is_lowest last 0)) }
 {
-    push_words(text, "init ")?;
+    push_piece(text, "init ")?;
     push_lowest(alloc, text, last, 0)?;
-    push_words(text, "\n")
+    push_piece(text, "\n")
 }
 
 // Appends the line of the proposition that this bit is 1.
 fn push_prop(alloc: Global, text: &mut Bytes, last: u32) -> Result<(), Memory>
     ensures { OnOk result (text.new ≡ text.old ++ line (codes "prop last T when " ++ has_value last 1)) }
 {
-    push_words(text, "prop last T when ")?;
-    push_test(alloc, text, last, 1)?;
-    push_words(text, "\n")
+    push_piece(text, "prop last T when ")?;
+    push_phrase(alloc, text, last, 1)?;
+    push_piece(text, "\n")
 }
 
 // Appends the name and the element of a command, up to its guard.
@@ -50,9 +50,9 @@ fn push_named(
     ensures { OnOk result (text.new ≡ text.old ++ codes "command set" ++ decimal bit ++ codes " with " ++ weight side number bit ++ codes " when ") }
 {
     push_number(alloc, text, "command set", bit)?;
-    push_words(text, " with ")?;
-    push_words(text, side.weight(number, bit))?;
-    push_words(text, " when ")
+    push_piece(text, " with ")?;
+    push_piece(text, side.weight(number, bit))?;
+    push_piece(text, " when ")
 }
 
 // Appends what a command does.
@@ -60,7 +60,7 @@ fn push_action(alloc: Global, text: &mut Bytes, bit: u32) -> Result<(), Memory>
     ensures { OnOk result (text.new ≡ text.old ++ codes " do " ++ bit_text bit ++ codes ":=1" ++ 10 ∷ []) }
 {
     push_number(alloc, text, " do b", bit)?;
-    push_words(text, ":=1\n")
+    push_piece(text, ":=1\n")
 }
 
 // Appends the command that sets a bit.
