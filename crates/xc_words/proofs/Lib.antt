@@ -1,0 +1,4 @@
+pub mod Matching
+pub mod Numerals
+pub mod Taking
+pub mod Facts

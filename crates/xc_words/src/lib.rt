@@ -1,0 +1,17 @@
+//! The command line: what the words that a program is given ask for.
+#![tactic(auto)]
+
+mod asked;
+mod command;
+mod fault;
+mod file_name;
+mod number;
+mod reading;
+
+pub use asked::{Request, ShowKind};
+pub use fault::WordsFault;
+pub use file_name::FileName;
+pub use reading::request;
+
+#[cfg(test)]
+mod tests;
