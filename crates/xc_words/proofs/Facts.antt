@@ -6,10 +6,87 @@ use Rattle.xc_words.specs.Requests.{request_of}
 use Rattle.xc_words.specs.declared.asked.Request.TheVariants.{Lattice, Check, Show, Gen}
 use Rattle.xc_words.specs.declared.asked.ShowKind.TheVariants as kinds
 
+-- decimal digits, without sign or leading zero, up to the largest that 32 bits hold
 pub numbers : (number_of (codes "0") ≡ Some 0) × (number_of (codes "7") ≡ Some 7) × (number_of (codes "4294967295") ≡ Some 4294967295)
     × (number_of (codes "4294967296") ≡ None) × (number_of (codes "07") ≡ None) × (number_of (codes "00") ≡ None) × (number_of (codes "+7") ≡ None) × (number_of (codes "-7") ≡ None) × (number_of (codes "7a") ≡ None) × (number_of [] ≡ None)
 numbers = (refl, refl, refl, refl, refl, refl, refl, refl, refl, refl)
 
-pub one_lattice : request_of (codes "lattice" ∷ codes "a" ∷ []) ≡ Some (Lattice (codes "a"))
+-- each case once
+pub requests : (request_of (codes "lattice" ∷ codes "a" ∷ []) ≡ Some (Lattice (codes "a")))
+    × (request_of (codes "check" ∷ codes "a" ∷ codes "b" ∷ []) ≡ Some (Check (codes "a") (codes "b") false false false))
+    × (request_of (codes "show" ∷ codes "lattice" ∷ codes "a" ∷ []) ≡ Some (Show kinds.Lattice (codes "a")))
+    × (request_of (codes "show" ∷ codes "view" ∷ codes "a" ∷ []) ≡ Some (Show kinds.View (codes "a")))
+    × (request_of (codes "show" ∷ codes "map" ∷ codes "a" ∷ []) ≡ Some (Show kinds.Map (codes "a")))
+    × (request_of (codes "gen" ∷ codes "7" ∷ codes "4" ∷ []) ≡ Some (Gen 7 4))
+    × (request_of (codes "gen" ∷ codes "0" ∷ codes "4294967295" ∷ []) ≡ Some (Gen 0 4294967295))
 unfolding clap_on_literals
-one_lattice = refl
+requests = (refl, refl, refl, refl, refl, refl, refl)
+
+-- words that fit no case, or are too few or too many
+pub no_requests : (request_of [] ≡ None)
+    × (request_of (codes "lattice" ∷ []) ≡ None)
+    × (request_of (codes "lattice" ∷ codes "a" ∷ codes "b" ∷ []) ≡ None)
+    × (request_of (codes "check" ∷ []) ≡ None)
+    × (request_of (codes "check" ∷ codes "a" ∷ []) ≡ None)
+    × (request_of (codes "check" ∷ codes "a" ∷ codes "b" ∷ codes "c" ∷ []) ≡ None)
+    × (request_of (codes "show" ∷ codes "a" ∷ []) ≡ None)
+    × (request_of (codes "show" ∷ codes "guard" ∷ codes "a" ∷ []) ≡ None)
+    × (request_of (codes "show" ∷ codes "View" ∷ codes "a" ∷ []) ≡ None)
+    × (request_of (codes "show" ∷ codes "view" ∷ codes "a" ∷ codes "b" ∷ []) ≡ None)
+    × (request_of (codes "gen" ∷ codes "7" ∷ []) ≡ None)
+    × (request_of (codes "gen" ∷ codes "07" ∷ codes "4" ∷ []) ≡ None)
+    × (request_of (codes "gen" ∷ codes "7" ∷ codes "04" ∷ []) ≡ None)
+    × (request_of (codes "gen" ∷ codes "7" ∷ codes "4294967296" ∷ []) ≡ None)
+    × (request_of (codes "gen" ∷ codes "x" ∷ codes "4" ∷ []) ≡ None)
+    × (request_of (codes "gen" ∷ codes "7" ∷ [] ∷ []) ≡ None)
+    × (request_of (codes "verify" ∷ codes "a" ∷ codes "b" ∷ codes "c" ∷ []) ≡ None)
+    × (request_of (codes "Lattice" ∷ codes "a" ∷ []) ≡ None)
+    × (request_of (codes "a" ∷ codes "lattice" ∷ []) ≡ None)
+unfolding clap_on_literals
+no_requests = (refl, refl, refl, refl, refl, refl, refl, refl, refl, refl, refl, refl, refl, refl, refl, refl, refl, refl, refl)
+
+-- a flag is taken before, between and after the other words, and asks for nothing yet
+pub flagged : (request_of (codes "check" ∷ codes "a" ∷ codes "b" ∷ codes "--witness" ∷ []) ≡ None)
+    × (request_of (codes "check" ∷ codes "a" ∷ codes "b" ∷ codes "--plain" ∷ []) ≡ None)
+    × (request_of (codes "check" ∷ codes "a" ∷ codes "b" ∷ codes "--size" ∷ []) ≡ None)
+    × (request_of (codes "check" ∷ codes "--plain" ∷ codes "--size" ∷ codes "a" ∷ codes "b" ∷ []) ≡ None)
+    × (request_of (codes "check" ∷ codes "a" ∷ codes "--witness" ∷ codes "b" ∷ []) ≡ None)
+    × (request_of (codes "--plain" ∷ codes "check" ∷ codes "a" ∷ codes "b" ∷ []) ≡ None)
+    × (request_of (codes "lattice" ∷ codes "--size" ∷ codes "a" ∷ []) ≡ None)
+    × (request_of (codes "show" ∷ codes "view" ∷ codes "a" ∷ codes "--plain" ∷ []) ≡ None)
+    × (request_of (codes "gen" ∷ codes "7" ∷ codes "4" ∷ codes "--witness" ∷ []) ≡ None)
+unfolding clap_on_literals
+flagged = (refl, refl, refl, refl, refl, refl, refl, refl, refl)
+
+-- flags that the command does not have, that have a value, or that are given twice
+pub refused : (request_of (codes "--help" ∷ []) ≡ None)
+    × (request_of (codes "-h" ∷ []) ≡ None)
+    × (request_of (codes "--version" ∷ []) ≡ None)
+    × (request_of (codes "lattice" ∷ codes "a" ∷ codes "--other" ∷ []) ≡ None)
+    × (request_of (codes "lattice" ∷ codes "a" ∷ codes "-x" ∷ []) ≡ None)
+    × (request_of (codes "lattice" ∷ codes "-7" ∷ []) ≡ None)
+    × (request_of (codes "gen" ∷ codes "-7" ∷ codes "4" ∷ []) ≡ None)
+    × (request_of (codes "check" ∷ codes "a" ∷ codes "b" ∷ codes "--plain=true" ∷ []) ≡ None)
+    × (request_of (codes "check" ∷ codes "a" ∷ codes "b" ∷ codes "--plain" ∷ codes "--plain" ∷ []) ≡ None)
+    × (request_of (codes "check" ∷ codes "a" ∷ codes "b" ∷ codes "--plai" ∷ []) ≡ None)
+unfolding clap_on_literals
+refused = (refl, refl, refl, refl, refl, refl, refl, refl, refl, refl)
+
+-- `--` is passed over once, and what follows it is no flag; a hyphen alone is a word as others
+pub hyphens : (request_of (codes "--" ∷ []) ≡ None)
+    × (request_of (codes "--" ∷ codes "--" ∷ []) ≡ None)
+    × (request_of (codes "--" ∷ codes "lattice" ∷ codes "a" ∷ []) ≡ Some (Lattice (codes "a")))
+    × (request_of (codes "lattice" ∷ codes "--" ∷ codes "a" ∷ []) ≡ Some (Lattice (codes "a")))
+    × (request_of (codes "lattice" ∷ codes "a" ∷ codes "--" ∷ []) ≡ Some (Lattice (codes "a")))
+    × (request_of (codes "lattice" ∷ codes "--" ∷ codes "--size" ∷ []) ≡ Some (Lattice (codes "--size")))
+    × (request_of (codes "lattice" ∷ codes "--" ∷ codes "--" ∷ []) ≡ Some (Lattice (codes "--")))
+    × (request_of (codes "lattice" ∷ codes "--" ∷ codes "-x" ∷ []) ≡ Some (Lattice (codes "-x")))
+    × (request_of (codes "lattice" ∷ codes "-" ∷ []) ≡ Some (Lattice (codes "-")))
+    × (request_of (codes "check" ∷ codes "a" ∷ codes "--" ∷ codes "b" ∷ []) ≡ Some (Check (codes "a") (codes "b") false false false))
+    × (request_of (codes "check" ∷ codes "--" ∷ codes "a" ∷ codes "--plain" ∷ []) ≡ Some (Check (codes "a") (codes "--plain") false false false))
+    × (request_of (codes "check" ∷ codes "--plain" ∷ codes "--" ∷ codes "a" ∷ codes "b" ∷ []) ≡ None)
+    × (request_of (codes "lattice" ∷ [] ∷ []) ≡ Some (Lattice []))
+    × (request_of (codes "--" ∷ codes "gen" ∷ codes "7" ∷ codes "4" ∷ []) ≡ Some (Gen 7 4))
+    × (request_of (codes "gen" ∷ codes "--" ∷ codes "-7" ∷ codes "4" ∷ []) ≡ None)
+unfolding clap_on_literals
+hyphens = (refl, refl, refl, refl, refl, refl, refl, refl, refl, refl, refl, refl, refl, refl, refl)
