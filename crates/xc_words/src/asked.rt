@@ -15,7 +15,9 @@ pub enum ShowKind {
 #[derive(Debug, Drop)]
 pub enum Request {
     /// To judge the lattice in that file.
-    Lattice { file: FileName },
+    Lattice {
+        file: FileName,
+    },
     /// To evaluate formulas over the machine that a map merges: with witnesses, by the explicit engine, or with the sizes of
     /// diagrams, where these are set.
     Check {
@@ -26,7 +28,13 @@ pub enum Request {
         size: bool,
     },
     /// To show the file of that kind.
-    Show { kind: ShowKind, file: FileName },
+    Show {
+        kind: ShowKind,
+        file: FileName,
+    },
     /// To evaluate a formula over the generated machine of that number and size.
-    Gen { number: u32, size: u32 },
+    Gen {
+        number: u32,
+        size: u32,
+    },
 }

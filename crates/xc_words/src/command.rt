@@ -37,7 +37,10 @@ fn command<'a>(alloc: Global) -> Result<Command<'a>, AllocError>
 }
 
 /// The list that the command reads: the program's name, and then the words.
-pub(crate) fn command_line<'a>(alloc: Global, words: &'a [String]) -> Result<Vec<&'a str>, AllocError>
+pub(crate) fn command_line<'a>(
+    alloc: Global,
+    words: &'a [String],
+) -> Result<Vec<&'a str>, AllocError>
     ensures { IfOk result (λ all. texts all.items ≡ command_line (map string_bytes words.entry.now)) }
 {
     let mut all: Vec<&'a str> = Vec::new(alloc);

@@ -72,7 +72,12 @@ fn check(alloc: Global, sigmap: &str, formulas: &str) -> Result<Request, WordsFa
     })
 }
 
-fn with_two_files(alloc: Global, mode: &str, first: &str, second: &str) -> Result<Request, WordsFault>
+fn with_two_files(
+    alloc: Global,
+    mode: &str,
+    first: &str,
+    second: &str,
+) -> Result<Request, WordsFault>
     ensures { Answers (with_two_files mode.now first.now second.now) result }
 {
     if mode == "check" {

@@ -12,8 +12,7 @@ fn told(alloc: Global, request: &Request) -> Result<String, Fail> {
             witness,
             plain,
             size,
-        } => format!(
-            in alloc;
+        } => format!(in alloc;
             "check [{}] [{}] {witness} {plain} {size}",
             map.as_str(),
             formulas.as_str()
