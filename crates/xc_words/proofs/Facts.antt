@@ -1,6 +1,8 @@
 -- Requests, numbers and words that ask for nothing, at small cases whose answers are known from outside: a wrong definition does not check here.
 use Rattle.std.proofs.Common.{◌≡◌, ℕ, List, [], ◌∷◌, Some, None, true, false, codes, refl}
 use Rattle.clap.proofs.OnLiterals.{clap_on_literals}
+use Rattle.clap.specs.Words.{all_of, matches_of}
+use Rattle.xc_words.specs.CommandLine.{command, command_line, has_flag, is_taken}
 use Rattle.xc_words.specs.Numbers.{number_of}
 use Rattle.xc_words.specs.Requests.{request_of}
 use Rattle.xc_words.specs.declared.asked.Request.TheVariants.{Lattice, Check, Show, Gen}
@@ -90,3 +92,17 @@ pub hyphens : (request_of (codes "--" ∷ []) ≡ None)
     × (request_of (codes "gen" ∷ codes "--" ∷ codes "-7" ∷ codes "4" ∷ []) ≡ None)
 unfolding clap_on_literals
 hyphens = (refl, refl, refl, refl, refl, refl, refl, refl, refl, refl, refl, refl, refl, refl, refl)
+
+-- what the command finds, and takes, where flags are given: each of the three is one of its own
+pub flags : (has_flag (codes "witness") (matches_of command (command_line (codes "check" ∷ codes "a" ∷ codes "--witness" ∷ codes "b" ∷ []))) ≡ true)
+    × (has_flag (codes "plain") (matches_of command (command_line (codes "check" ∷ codes "--plain" ∷ codes "--size" ∷ codes "a" ∷ codes "b" ∷ []))) ≡ true)
+    × (has_flag (codes "size") (matches_of command (command_line (codes "check" ∷ codes "--plain" ∷ codes "--size" ∷ codes "a" ∷ codes "b" ∷ []))) ≡ true)
+    × (has_flag (codes "witness") (matches_of command (command_line (codes "check" ∷ codes "--plain" ∷ codes "--size" ∷ codes "a" ∷ codes "b" ∷ []))) ≡ false)
+    × (all_of (codes "files") (matches_of command (command_line (codes "check" ∷ codes "a" ∷ codes "--witness" ∷ codes "b" ∷ []))) ≡ Some (codes "a" ∷ codes "b" ∷ []))
+unfolding clap_on_literals
+flags = (refl, refl, refl, refl, refl)
+
+pub taken : (is_taken (command_line []) ≡ true) × (is_taken (command_line (codes "check" ∷ codes "--plain" ∷ codes "--size" ∷ codes "a" ∷ codes "b" ∷ [])) ≡ true) × (is_taken (command_line (codes "any" ∷ codes "--witness" ∷ codes "--" ∷ codes "--witness" ∷ [])) ≡ true)
+    × (is_taken (command_line (codes "--help" ∷ [])) ≡ false) × (is_taken (command_line (codes "-h" ∷ [])) ≡ false) × (is_taken (command_line (codes "check" ∷ codes "--plain" ∷ codes "--plain" ∷ [])) ≡ false) × (is_taken (command_line (codes "--size=1" ∷ [])) ≡ false)
+unfolding clap_on_literals
+taken = (refl, refl, refl, refl, refl, refl, refl)
