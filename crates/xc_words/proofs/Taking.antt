@@ -1,15 +1,20 @@
 -- What a parse by the command says of the list that it reads.
-use Rattle.std.proofs.Common.{◌≡◌, Bool, true, false, ◌||◌, List, [], ◌∷◌, Option, Some, None, Ok, Err, refl, ap, subst, rules, arith, inl, inr, ◌∙◌}
+use Rattle.std.proofs.Common.{◌≡◌, Bool, true, false, ◌||◌, List, [], ◌∷◌, codes, Option, Some, None, Ok, Err, refl, ap, subst, rules, arith, inl, inr, ◌∙◌}
 use Rattle.std.specs.Prelude.{IsSomeAnd}
 use Rattle.clap.specs.Lexer.{usize_max}
 use Rattle.clap.specs.Walk.{is_empty}
-use Rattle.clap.specs.Words.{App, HasKind, HasMatchesOf, Kinds, Rule, Text, fault_of, is_simple, is_simple_and_free, kind_of, takes}
+use Rattle.clap.specs.Words.{App, HasKind, HasMatchesOf, Kinds, Rule, Text, app_of, fault_of, is_simple, is_simple_and_free, kind_of, new_app, new_rule, rule_of, takes}
+use Rattle.clap.specs.Simple.{app_of_fields, on_top}
+use Rattle.clap.specs.declared.builder.arg.Arg.{Arg}
+use Rattle.clap.specs.declared.builder.command.Command.{Command}
+use Rattle.clap.specs.declared.builder.command.Command.TheViews.{out-Command as fields_of}
 use Rattle.clap.specs.declared.builder.range.ValueRange.{ValueRange}
 use Rattle.clap.specs.declared.error.Error.{Error}
 use Rattle.clap.specs.declared.error.kind.ErrorKind.TheVariants.{OutOfMemory}
 use Rattle.clap.specs.declared.parser.matches.ArgMatches.{ArgMatches}
 use Rattle.clap.proofs.OnLiterals.{clap_on_literals}
-use Rattle.xc_words.specs.CommandLine.{IsMatched, command}
+use Rattle.xc_words.specs.CommandLine as spec
+use Rattle.xc_words.specs.CommandLine.{IsMatched, command, files_rule}
 use Rattle.xc_words.specs.declared.fault.WordsFault.{WordsFault}
 use Rattle.xc_words.specs.declared.fault.WordsFault.TheVariants.{Words, Memory}
 
@@ -17,9 +22,17 @@ some_is : {X : Type 0} (o : Option X) (x : X) → IsSomeAnd o (λ y. y ≡ x) �
 some_is None x h = absurd h
 some_is (Some y) x e = ap Some e
 
-pub ranged : (a b : Rule) (o : Option ValueRange) → a ≡ b → IsSomeAnd o (λ r. r ≡ record { start_inclusive = 0; end_inclusive = usize_max })
-    → record a { range = o } ≡ record b { range = Some (record { start_inclusive = 0; end_inclusive = usize_max }) }
-ranged a b o same h = ap (λ (r : Rule). record r { range = o }) same ∙ ap (λ (p : Option ValueRange). record b { range = p }) (some_is o _ h)
+pub any_number : (a b : Arg) → rule_of a ≡ new_rule (codes "files") → (b ≡ record a { num_vals = b.num_vals }) × IsSomeAnd b.num_vals (λ r. r ≡ record { start_inclusive = 0; end_inclusive = usize_max }) → rule_of b ≡ files_rule
+any_number a b same h = ap rule_of h.0 ∙ ap (λ (r : Rule). record r { range = b.num_vals }) same ∙ ap (λ (o : Option ValueRange). record (new_rule (codes "files")) { range = o }) (some_is b.num_vals _ h.1)
+
+abbrev without_help : App → App
+without_help = on_top (λ s. record s { disable_help_flag = true })
+
+abbrev without_version : App → App
+without_version = on_top (λ s. record s { disable_version_flag = true })
+
+pub bare : (a b c : Command) → app_of a ≡ new_app (codes "chichek") → fields_of b ≡ record (fields_of a) { disable_help_flag = true } → fields_of c ≡ record (fields_of b) { disable_version_flag = true } → app_of c ≡ spec.bare
+bare a b c start help version = ap app_of_fields version ∙ ap without_version (ap app_of_fields help ∙ ap without_help start)
 
 simple : is_simple command ≡ true
 unfolding clap_on_literals

@@ -23,15 +23,14 @@ files_rule = record (new_rule (codes "files")) { range = Some (record { start_in
 abbrev pub flag_rule : Text → Rule
 flag_rule name = record (new_rule name) { long = Some name; action = Some SetTrue }
 
--- `chichek`, without help and version
+-- `chichek`, without help, version and arguments
+abbrev pub bare : App
+bare = record { top = record (new_shape (codes "chichek")) { disable_help_flag = true; disable_version_flag = true }; subs = [] }
+
+-- `chichek` with its arguments
 abbrev pub command : App
-command = record {
-  top = record (new_shape (codes "chichek")) {
-    rules = mode_rule ∷ files_rule ∷ flag_rule (codes "witness") ∷ flag_rule (codes "plain") ∷ flag_rule (codes "size") ∷ [];
-    disable_help_flag = true;
-    disable_version_flag = true;
-  };
-  subs = [];
+command = record bare {
+  top = record bare.top { rules = mode_rule ∷ files_rule ∷ flag_rule (codes "witness") ∷ flag_rule (codes "plain") ∷ flag_rule (codes "size") ∷ [] };
 }
 
 -- the list that the command reads: the program's name, and then the words

@@ -6,7 +6,7 @@ ghost use Rattle.clap.specs.Words.{app_of, kind_of, rule_of};
 ghost use Rattle.clap.specs.declared.error.kind.ErrorKind.TheVariants.{OutOfMemory};
 ghost use Rattle.xc_words.specs.declared.fault.WordsFault.TheVariants.{Words};
 ghost use Rattle.clap.specs.Walk.{texts};
-ghost use Rattle.xc_words.specs.CommandLine.{IsMatched, command, command_line, flag_rule};
+ghost use Rattle.xc_words.specs.CommandLine.{IsMatched, bare, command, command_line, files_rule, flag_rule};
 
 use crate::fault::WordsFault;
 use clap::error::ErrorKind;
@@ -21,16 +21,32 @@ fn flag<'a>(alloc: Global, name: &'a str) -> Arg<'a>
     Arg::new(alloc, name).long(name).action(ArgAction::SetTrue)
 }
 
+/// The command before its arguments, without help and version.
+#[tactic(auto, using(crate::proofs::Taking::bare))]
+fn bare<'a>(alloc: Global) -> Command<'a>
+    ensures { app_of result ≡ bare }
+{
+    Command::new(alloc, "chichek")
+        .disable_help_flag(true)
+        .disable_version_flag(true)
+}
+
+/// Any number of words.
+#[tactic(auto, using(crate::proofs::Taking::any_number))]
+fn files<'a>(alloc: Global) -> Arg<'a>
+    ensures rule { rule_of result ≡ files_rule }
+    ensures local { result.global ≡ false }
+{
+    Arg::new(alloc, "files").num_args(0..)
+}
+
 /// The command: a mode, any number of words after it, and three flags.
 fn command<'a>(alloc: Global) -> Result<Command<'a>, AllocError>
     ensures { IfOk result (λ c. app_of c ≡ command) }
 {
-    let files = Arg::new(alloc, "files").num_args(0..);
-    Command::new(alloc, "chichek")
-        .disable_help_flag(true)
-        .disable_version_flag(true)
+    bare(alloc)
         .arg(Arg::new(alloc, "mode"))?
-        .arg(files)?
+        .arg(files(alloc))?
         .arg(flag(alloc, "witness"))?
         .arg(flag(alloc, "plain"))?
         .arg(flag(alloc, "size"))
