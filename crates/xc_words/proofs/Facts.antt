@@ -1,5 +1,5 @@
 -- Requests, numbers and words that ask for nothing, at small cases whose answers are known from outside: a wrong definition does not check here.
-use Rattle.std.proofs.Common.{◌≡◌, ℕ, List, [], ◌∷◌, Some, None, true, false, codes, refl}
+use Rattle.std.proofs.Common.{◌≡◌, [], ◌∷◌, Some, None, true, false, codes, refl}
 use Rattle.clap.proofs.OnLiterals.{clap_on_literals}
 use Rattle.clap.specs.Words.{all_of, matches_of}
 use Rattle.xc_words.specs.CommandLine.{command, command_line, has_flag, is_taken}

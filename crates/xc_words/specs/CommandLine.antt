@@ -37,7 +37,7 @@ command = record bare {
 abbrev pub command_line : List Text → List Text
 command_line words = codes "chichek" ∷ words
 
--- whether the command takes a list
+-- whether the command takes a list: neither definition of when it does refuses it alone, as `TakesWithoutFault` says
 abbrev pub is_taken : List Text → Bool
 is_taken line = takes command line || is_empty (fault_of command line)
 

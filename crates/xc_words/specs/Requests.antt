@@ -1,5 +1,5 @@
 -- What the words ask for, by cases on the matches of the one command.
-use Rattle.std.specs.Prelude.{◌≡◌, ℕ, Bool, false, ◌||◌, if◌then◌else◌, List, [], ◌∷◌, Option, Some, None, Result, Ok, Err, ⊤, codes, option_map, option_and_then}
+use Rattle.std.specs.Prelude.{◌≡◌, false, ◌||◌, if◌then◌else◌, List, [], ◌∷◌, Option, Some, None, Result, Ok, Err, ⊤, codes, option_map, option_and_then}
 use Rattle.std.specs.Str.{bytes_eq}
 use Rattle.clap.specs.Words.{Row, Text, all_of, first_of, matches_of}
 use Rattle.xc_words.specs.CommandLine.{command, command_line, is_taken, has_flag}

@@ -1,4 +1,3 @@
-use Rattle.std.proofs.Common.{◌≡◌}
 use Rattle.clap.specs.Walk.{texts}
 use Rattle.clap.specs.Words.{app_of}
 use Rattle.xc_words.proofs.Taking.{taken, not_taken}
