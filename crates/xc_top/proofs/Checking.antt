@@ -1,6 +1,5 @@
 -- What comes of the files of a check behind its viewpoints.
 use Rattle.std.proofs.Common.{◌≡◌, ℕ, zero, suc, ◌+◌, ◌<◌, ◌≤◌, List, [], ◌∷◌, ◌++◌, length, map, drop, get_or, length-append, Option, Some, None, Result, Ok, Err, MatchOption, refl, sym, ◌∙◌, ap, subst, arith}
-use Rattle.std.specs.String.{string_bytes}
 use Rattle.std.proofs.lemmas.Bool.{lt-ltb}
 use Rattle.xc_base.specs.Formats.{Row, IsAccepted}
 use Rattle.xc_base.specs.Shelves.{Shelved}
@@ -38,7 +37,8 @@ use Rattle.xc_top.proofs.Reports.{some_report}
 use Rattle.xc_top.specs.declared.answer.Answer.{Answer}
 use Rattle.xc_top.specs.declared.halt.Halt.{Halt}
 use Rattle.xc_top.specs.declared.halt.Halt.TheVariants.{Words, Refused, ReadFault, WriteFault, Memory}
-use Rattle.xc_top.proofs.Courses.{Course, stands_by, prepared_by, comes_prepared, cut_stops, cut_comes_to, refused_comes}
+use Rattle.xc_top.proofs.Courses.{stands_by, prepared_by, comes_prepared, cut_stops, cut_comes_to, refused_comes}
+use Rattle.xc_top.specs.Outcomes.{Course}
 use Rattle.xc_top.proofs.Opening.{viewpoint_halts, viewpoint_goes_on}
 
 -- the formulas' file

@@ -15,16 +15,13 @@ use Rattle.xc_base.specs.Shelves.{Told, Shelved, IsLoaded, held, HasRisen}
 use Rattle.xc_base.specs.declared.shelf.File.{File}
 use Rattle.xc_top.specs.Headline.{FailedOnce, KeepsOrFails}
 use Rattle.xc_top.specs.Texts.{file_line, read_line}
-use Rattle.xc_top.specs.Outcomes.{Outcome, Absent, Refusal, Served, Event, Ends, Loading, always, rest, file_limit, Cuts, Opens}
+use Rattle.xc_top.specs.Outcomes.{Course, Outcome, Absent, Refusal, Served, Event, Ends, Loading, always, rest, file_limit, Cuts, Opens}
 use Rattle.xc_top.specs.Writing.{passed_status}
 use Rattle.xc_top.specs.Working.{AddsFailed, Comes, EndsWith, IsHalted, IsLoadHalt, IsPrepared, CountsOn, IsCut, IsCutHalt, IsRefusalHalt, StandsFor, Stops}
 use Rattle.xc_top.specs.declared.answer.Answer.{Answer}
 use Rattle.xc_top.specs.declared.answer.Answer.TheVariants.{Text, Report}
 use Rattle.xc_top.specs.declared.halt.Halt.{Halt}
 use Rattle.xc_top.specs.declared.halt.Halt.TheVariants.{Words, Refused, ReadFault, WriteFault, Memory}
-
-abbrev pub Course : Type 1
-Course = (ℕ → List File) → Event → Type 0
 
 -- where each load finds the same
 some_moments : ℕ → List File

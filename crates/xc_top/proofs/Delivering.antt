@@ -1,6 +1,5 @@
 -- What the writing of several texts one after another comes to.
 use Rattle.std.proofs.Common.{◌≡◌, ℕ, zero, suc, ◌+◌, ◌<◌, ◌≤◌, Bool, true, false, IfOk, List, [], ◌∷◌, ◌++◌, length, map, drop, take, get_or, sum, Option, Some, None, Result, Ok, Err, refl, sym, ◌∙◌, ap, subst, append-nil, append_assoc, length-append, arith}
-use Rattle.std.specs.Option.{option_map}
 use Rattle.std.specs.List.{list_all}
 use Rattle.std.proofs.Math.Seq.{take-append_seam}
 use Rattle.std.proofs.lemmas.List.{take-append-le, length-take, length-map, get_or-map}
@@ -22,13 +21,12 @@ use Rattle.xc_machine.specs.declared.machine.Machine.{Machine}
 use Rattle.xc_product.specs.Heights.{AreHeights}
 use Rattle.xc_report.specs.Reports.{head_text, block_text, blocks_text, report_text}
 use Rattle.xc_top.specs.Checks.{AreTables}
-use Rattle.xc_top.specs.Outcomes.{Outcome, Served, Reports}
-use Rattle.xc_top.specs.Writing.{CanReport, IsReady, IsStopped, IsWritten, IsBlock, IsHead, WritesBlock, WritesBlocks, WritesReport, WritesOutcome, GoesOn, Gives, Delivers, passed_status}
+use Rattle.xc_top.specs.Outcomes.{Outcome}
+use Rattle.xc_top.specs.Writing.{CanReport, IsReady, IsStopped, IsWritten, IsBlock, IsHead, WritesBlock, WritesBlocks, WritesReport, WritesOutcome, GoesOn, Delivers}
 use Rattle.xc_top.specs.declared.answer.Answer.{Answer}
 use Rattle.xc_top.specs.declared.answer.Answer.TheVariants.{Text, Report}
 use Rattle.xc_top.specs.declared.answer.Passed.{Passed}
 use Rattle.xc_top.specs.declared.answer.Passed.TheVariants as passed
-use Rattle.xc_top.specs.declared.status.Status.TheVariants.{Done}
 use Rattle.xc_top.specs.declared.halt.Halt.{Halt}
 use Rattle.xc_top.specs.declared.halt.Halt.TheVariants.{Words, Refused, ReadFault, WriteFault, Memory}
 use Rattle.xc_top.proofs.Reports.{block_same, table_parts}

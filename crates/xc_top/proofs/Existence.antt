@@ -22,7 +22,7 @@ use Rattle.xc_top.specs.Outcomes.{Outcome, Absent, Refusal, Served, Event, Ends,
 use Rattle.xc_top.specs.Outcomes.ReadsMap.{faulty as map_faulty, accepted as map_accepted}
 use Rattle.xc_top.specs.Outcomes.ReadsView.{faulty as view_faulty, accepted as view_accepted}
 use Rattle.xc_top.specs.Outcomes.ReadsFormulas.{faulty as formulas_faulty, accepted as formulas_accepted}
-use Rattle.xc_top.proofs.Courses.{Course}
+use Rattle.xc_top.specs.Outcomes.{Course}
 use Rattle.xc_report.proofs.Lattices.{IsNamed, AreNamed, named_more, file_is_named, lattice_height, some_heights}
 use Rattle.xc_report.proofs.Framed.{IsGood, accepted_is_sound}
 use Rattle.xc_top.proofs.Reports.{AreFormulas, good_formulas, some_report}

@@ -13,11 +13,7 @@ use Rattle.xc_view.specs.ViewFiles.{ViewValue, view_format}
 use Rattle.xc_sigmap.specs.MapFiles.{map_format}
 use Rattle.xc_top.specs.declared.status.Status.TheVariants.{Done}
 use Rattle.xc_merge.specs.Merges.{Merge}
-use Rattle.xc_merge.specs.MergedFrames.{initials_of}
 use Rattle.xc_merge.specs.declared.fault.MergeFault.TheVariants.{UnknownValue, UnknownName, NotTotal, Elements, NoInitial, Initial}
-use Rattle.xc_alg.specs.Products.{product}
-use Rattle.xc_ctl.specs.Rounds.{RoundsTable}
-use Rattle.xc_ctl.specs.declared.kind.Kind.TheVariants.{Atom, Ex}
 use Rattle.xc_top.specs.Requests.{request_of, LatticeOf, CheckOf, ShowOf, LatticeFile, ViewFile, MapFile}
 use Rattle.xc_top.specs.Texts.{lattice_text, broken_text, words_line, file_line, broken_line, merge_line, states_line, read_line, write_line, memory_line}
 use Rattle.xc_top.specs.Outcomes.{Ends, Refusal, Served, files_of, ShowTasks}

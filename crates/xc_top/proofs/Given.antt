@@ -1,5 +1,5 @@
 -- The formulas of a file that is accepted, as they are evaluated.
-use Rattle.std.proofs.Common.{◌≡◌, ℕ, ◌+◌, ◌<◌, ◌≤◌, Bool, true, false, cond, nat_lt, List, [], ◌∷◌, ◌++◌, length, map, length-append, Option, Some, None, Result, Ok, Err, IfOk, refl, sym, ◌∙◌, ap, subst, arith}
+use Rattle.std.proofs.Common.{◌≡◌, ℕ, ◌+◌, ◌<◌, ◌≤◌, Bool, true, false, cond, nat_lt, List, [], ◌∷◌, ◌++◌, length, length-append, Option, Some, None, Result, Ok, Err, IfOk, refl, ◌∙◌, ap, subst, arith}
 use Rattle.std.specs.List.{list_all}
 use Rattle.std.specs.Option.{is_none}
 use Rattle.std.proofs.lemmas.Bool.{ltb-true}
@@ -9,7 +9,7 @@ use Rattle.xc_alg.specs.Products.{product}
 use Rattle.xc_base.specs.Formats.{Row, Excess, AreStatements, IsAccepted}
 use Rattle.xc_base.specs.Formats.AreStatements.{none, next}
 use Rattle.xc_base.specs.declared.fault.Stop.{Stop}
-use Rattle.xc_ctl.specs.FormulaFiles.{node_limit, text_limit, formula_limit, tree_excess, tables_of, table_in, formula_format}
+use Rattle.xc_ctl.specs.FormulaFiles.{node_limit, text_limit, formula_limit, tree_excess, table_in, formula_format}
 use Rattle.xc_ctl.specs.Formulas.{nodes_in}
 use Rattle.xc_ctl.specs.Tables.{is_table_in, size_of}
 use Rattle.xc_ctl.specs.Texts.{text_of}

@@ -18,7 +18,8 @@ use Rattle.xc_top.specs.Working.{nothing, CountsOn, IsCut, IsFile, IsHalted, IsF
 use Rattle.xc_top.specs.declared.answer.Answer.{Answer}
 use Rattle.xc_top.specs.declared.halt.Halt.{Halt}
 use Rattle.xc_top.specs.declared.halt.Halt.TheVariants.{Words, Refused, ReadFault, WriteFault, Memory}
-use Rattle.xc_top.proofs.Courses.{Course, prepared_by, cut_goes_on, cut_comes_to, load_goes_on, load_comes_to, opens_by, refused_comes}
+use Rattle.xc_top.proofs.Courses.{prepared_by, cut_goes_on, cut_comes_to, load_goes_on, load_comes_to, opens_by, refused_comes}
+use Rattle.xc_top.specs.Outcomes.{Course}
 
 -- a file that was read, and work that goes on behind it
 pub file_goes_on : {X : Type 0} (P : List Row → X → Type 0) (name : List ℕ) (next : List Row → Course) (Q : Course) (x : X) (before shelf shelf_after : Shelved) (result : Result Answer Halt) → ((rows : List Row) → P rows x → (m : ℕ → List File) (e : Event) → Q m e → next rows m e)

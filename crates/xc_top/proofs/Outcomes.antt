@@ -31,7 +31,7 @@ use Rattle.xc_top.specs.Outcomes.ReadsMap.{faulty as map_faulty, accepted as map
 use Rattle.xc_top.specs.Outcomes.ReadsView.{faulty as view_faulty, accepted as view_accepted}
 use Rattle.xc_top.specs.Outcomes.ReadsFormulas.{faulty as formulas_faulty, accepted as formulas_accepted}
 use Rattle.xc_top.specs.declared.status.Status.TheVariants.{Done}
-use Rattle.xc_top.proofs.Courses.{Course}
+use Rattle.xc_top.specs.Outcomes.{Course}
 use Rattle.xc_report.proofs.Lattices.{IsNamed, AreNamed, named_more, file_is_named}
 use Rattle.xc_report.proofs.Framed.{IsGood, accepted_is_sound}
 use Rattle.xc_top.proofs.Reports.{AreFormulas, good_formulas, one_report}

@@ -1,6 +1,6 @@
 -- There is one text of the values of formulas, and one at most.
 use Rattle.std.proofs.Common.{◌≡◌, ℕ, zero, suc, ◌+◌, ◌-◌, ◌<◌, ◌≤◌, Bool, true, false, ◌&&◌, nat_le, List, [], ◌∷◌, ◌++◌, length, refl, sym, ◌∙◌, ap, subst, arith}
-use Rattle.std.specs.Prelude.{None, Option, codes, count_by, fold, cond, ◌==◌}
+use Rattle.std.specs.Prelude.{None, Option, codes, count_by, fold, cond}
 use Rattle.std.specs.Fmt.{decimal}
 use Rattle.std.specs.List.{list_all, range_with_len, flat_map, filter, sum}
 use Rattle.xc_base.specs.Names.{name_at}

@@ -1,9 +1,8 @@
 -- What serving words comes to, from what preparing and delivering did.
-use Rattle.std.proofs.Common.{◌≡◌, ℕ, List, Option, Some, None, Result, Ok, Err, MatchOption, IsSome, IfSome, inl, inr, refl, sym, ap, subst, arith}
-use Rattle.std.proofs.Math.Seq.{take-append_seam}
+use Rattle.std.proofs.Common.{◌≡◌, ℕ, List, Option, Some, None, Result, Ok, Err, MatchOption, IsSome, IfSome, inl, inr, refl, sym, subst}
 use Rattle.std.specs.String.{string_bytes}
 use Rattle.xc_base.specs.Shelves.{Told, Shelved}
-use Rattle.xc_base.specs.Sinks.{Sunk, IsCalm, AddsWhole, AddsPart, AddsFront}
+use Rattle.xc_base.specs.Sinks.{Sunk, AddsWhole, AddsPart, AddsFront}
 use Rattle.xc_base.specs.declared.shelf.File.{File}
 use Rattle.xc_top.specs.Requests.{Request, request_of}
 use Rattle.xc_top.specs.Texts.{read_line}

@@ -4,7 +4,7 @@ use Rattle.std.specs.Prelude.{◌≡◌, ◌≢◌, ℕ, Bool, true, false, ◌�
 use Rattle.xc_base.specs.Shelves.{Told, Shelved, HasRisen, has_risen}
 use Rattle.xc_base.specs.Sinks.{Sunk, AddsWhole, AddsPart, AddsFront, AddsNothing, IsCalm}
 use Rattle.xc_base.specs.declared.shelf.File.{File}
-use Rattle.xc_top.specs.Outcomes.{Event, Ends, Loading, Outcome, Absent, Refusal, Served, always, IsCourse, IsOutcome, IsReached}
+use Rattle.xc_top.specs.Outcomes.{Course, ComesOfWords, Loading, Outcome, Absent, Refusal, Served, always, IsCourse, IsOutcome, IsReached}
 use Rattle.xc_top.specs.Requests.{request_of}
 use Rattle.xc_top.specs.Texts.{words_line, read_line, write_line, memory_line}
 use Rattle.xc_top.specs.declared.status.Status.{Status}
@@ -46,7 +46,7 @@ pub record AnswersRefusal (words : List (List ℕ)) (shelf : Shelved) (old new e
 pub record MayServe (words : List (List ℕ)) (old new : Sunk) (status : Status) : Type 0 where
   pub moments : ℕ → List File
   pub text : List ℕ
-  pub served : MatchOption (request_of words) ⊥ (λ request. IsCourse request moments (Ends (Served status text)))
+  pub served : ComesOfWords words moments (Served status text)
   pub whole : AddsWhole text old.bytes new.bytes
 
 -- out got the whole text of a served outcome with that status, and counted nothing
@@ -63,16 +63,16 @@ pub record AnswersService (words : List (List ℕ)) (shelf : Shelved) (old new :
 
 -- One load failed, of a name that the course reaches where each load finds some files, and P holds of the name. Where files
 -- are told it is reached over those, and is the one name that joined the failed ones.
-pub record FailedOnce (Course : (ℕ → List File) → Event → Type 0) (shelf shelf_after : Shelved) (P : List ℕ → Type 0) : Type 0 where
+pub record FailedOnce (tasks : Course) (shelf shelf_after : Shelved) (P : List ℕ → Type 0) : Type 0 where
   pub name : List ℕ
   pub moments : ℕ → List File
-  pub reached : Course moments (Loading name)
+  pub reached : tasks moments (Loading name)
   pub told : P name
-  pub failed : IfSome shelf.told (λ told. Course (always told.files) (Loading name) × (shelf_after.told ≡ Some (record told { failed = told.failed ++ name ∷ [] })))
+  pub failed : IfSome shelf.told (λ told. tasks (always told.files) (Loading name) × (shelf_after.told ≡ Some (record told { failed = told.failed ++ name ∷ [] })))
 
 -- what a shelf tells stays, or one load failed as above
-abbrev pub KeepsOrFails : ((ℕ → List File) → Event → Type 0) → Shelved → Shelved → Type 0
-KeepsOrFails Course shelf shelf_after = (shelf_after.told ≡ shelf.told) ⊎ FailedOnce Course shelf shelf_after (λ name. Unit {0})
+abbrev pub KeepsOrFails : Course → Shelved → Shelved → Type 0
+KeepsOrFails tasks shelf shelf_after = (shelf_after.told ≡ shelf.told) ⊎ FailedOnce tasks shelf shelf_after (λ name. Unit {0})
 
 -- Where the status is ReadFault, the shelf's count of faults rose, by one failed load that err's line names, and nothing is
 -- written to out.
@@ -86,7 +86,7 @@ pub record MayWrite (words : List (List ℕ)) (P : List ℕ → Type 0) : Type 0
   pub moments : ℕ → List File
   pub status : Status
   pub text : List ℕ
-  pub served : MatchOption (request_of words) ⊥ (λ request. IsCourse request moments (Ends (Served status text)))
+  pub served : ComesOfWords words moments (Served status text)
   pub holds : P text
 
 -- Where the status is WriteFault, out's count of faults rose, the outcome is served, and out has a front of its text but not
@@ -131,7 +131,7 @@ pub record IsComplete (words : List (List ℕ)) (shelf shelf_after : Shelved) (o
 -- where each load finds some files, the outcome is a refusal with that line
 pub record MayRefuse (words : List (List ℕ)) (line : List ℕ) : Type 0 where
   pub moments : ℕ → List File
-  pub refused : MatchOption (request_of words) ⊥ (λ request. IsCourse request moments (Ends (Refusal line)))
+  pub refused : ComesOfWords words moments (Refusal line)
 
 -- where each load finds some files, a load of that name is reached
 pub record MayLoad (words : List (List ℕ)) (name : List ℕ) : Type 0 where

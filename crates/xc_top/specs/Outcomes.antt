@@ -43,8 +43,11 @@ pub data Event : Type 0 where
   Ends : Outcome → Event
   Loading : List ℕ → Event
 
--- Courses are told by what each load finds, one after another, and what may happen. Where the files stay, each load finds
--- the same.
+-- A course is told by what each load finds, one after another, and what may happen. Where the files stay, each load finds the
+-- same.
+abbrev pub Course : Type 1
+Course = (ℕ → List File) → Event → Type 0
+
 abbrev pub rest : (ℕ → List File) → ℕ → List File
 rest moments k = moments (suc k)
 
@@ -61,15 +64,15 @@ abbrev pub file_limit : ℕ
 file_limit = 1048576
 
 -- A load: it is reached, and where the name is not held that is the outcome, and else the work goes on with the bytes.
-abbrev pub Loads : List ℕ → (List ℕ → (ℕ → List File) → Event → Type 0) → (ℕ → List File) → Event → Type 0
+abbrev pub Loads : List ℕ → (List ℕ → Course) → Course
 Loads name next moments event = (event ≡ Loading name) ⊎ MatchOption (held (moments 0) name) (event ≡ Ends (Absent name)) (λ bytes. next bytes (rest moments) event)
 
 -- A cut: where the text has a fault it is refused, and else the work goes on with the rows.
-abbrev pub Cuts : List ℕ → (List Row → (ℕ → List File) → Event → Type 0) → List ℕ → (ℕ → List File) → Event → Type 0
+abbrev pub Cuts : List ℕ → (List Row → Course) → List ℕ → Course
 Cuts name next bytes moments event = MatchOption (text_fault file_limit bytes) (next (text_rows bytes) moments event) (λ fault. event ≡ Ends (Refusal (file_line name)))
 
 -- a load of a file and the cutting of its text
-abbrev pub Opens : List ℕ → (List Row → (ℕ → List File) → Event → Type 0) → (ℕ → List File) → Event → Type 0
+abbrev pub Opens : List ℕ → (List Row → Course) → Course
 Opens name next moments event = Loads name (Cuts name next) moments event
 
 -- the lattice has a height, and its text is for out
@@ -91,33 +94,33 @@ pub record JudgesLattice (name : List ℕ) (rows : List Row) (outcome : Outcome)
   pub comes : ComesOf name verdict outcome
 
 -- The map in a file: where the file has a fault it is refused, and else the work goes on with the map.
-pub data ReadsMap (name : List ℕ) (next : MapValue → (ℕ → List File) → Event → Type 0) (rows : List Row) (moments : ℕ → List File) (event : Event) : Type 0 where
+pub data ReadsMap (name : List ℕ) (next : MapValue → Course) (rows : List Row) (moments : ℕ → List File) (event : Event) : Type 0 where
   faulty : (fault : FileFault) → IsFirstFault map_format rows fault → event ≡ Ends (Refusal (file_line name)) → ReadsMap name next rows moments event
   accepted : (plan : MapValue) → IsAccepted map_format rows plan → next plan moments event → ReadsMap name next rows moments event
 
 -- The view in a file: where the file has a fault it is refused, and else the work goes on with the view.
-pub data ReadsView (name : List ℕ) (next : ViewValue → (ℕ → List File) → Event → Type 0) (rows : List Row) (moments : ℕ → List File) (event : Event) : Type 0 where
+pub data ReadsView (name : List ℕ) (next : ViewValue → Course) (rows : List Row) (moments : ℕ → List File) (event : Event) : Type 0 where
   faulty : (fault : FileFault) → IsFirstFault view_format rows fault → event ≡ Ends (Refusal (file_line name)) → ReadsView name next rows moments event
   accepted : (v : ViewValue) → IsAccepted view_format rows v → next v moments event → ReadsView name next rows moments event
 
 -- what comes of the verdict on a lattice file, where the request is not to judge it
-abbrev pub ComesOfLattice : List ℕ → (LatticeValue → (ℕ → List File) → Event → Type 0) → Verdict → (ℕ → List File) → Event → Type 0
+abbrev pub ComesOfLattice : List ℕ → (LatticeValue → Course) → Verdict → Course
 ComesOfLattice name next (Faulty fault) moments event = event ≡ Ends (Refusal (file_line name))
 ComesOfLattice name next (Unlawful law names) moments event = event ≡ Ends (Refusal (broken_line name law names))
 ComesOfLattice name next (Lawful l) moments event = next l moments event
 
 -- The lattice in a file: where the file has a fault, or breaks a law, it is refused, and else the work goes on with the lattice.
-pub record ReadsLattice (name : List ℕ) (next : LatticeValue → (ℕ → List File) → Event → Type 0) (rows : List Row) (moments : ℕ → List File) (event : Event) : Type 0 where
+pub record ReadsLattice (name : List ℕ) (next : LatticeValue → Course) (rows : List Row) (moments : ℕ → List File) (event : Event) : Type 0 where
   pub verdict : Verdict
   pub judged : IsVerdict rows verdict
   pub comes : ComesOfLattice name next verdict moments event
 
 -- A viewpoint: the file of its view, and then the file of the lattice that the view names.
-abbrev pub LoadsViewpoint : List ℕ → (Viewpoint → (ℕ → List File) → Event → Type 0) → (ℕ → List File) → Event → Type 0
+abbrev pub LoadsViewpoint : List ℕ → (Viewpoint → Course) → Course
 LoadsViewpoint file next = Opens file (ReadsView file (λ v. Opens v.lattice (ReadsLattice v.lattice (λ l. next (record { view = v; lattice = l })))))
 
 -- The viewpoints of some files, one after another, behind those that were found.
-abbrev pub LoadsViewpoints : List (List ℕ) → List Viewpoint → (List Viewpoint → (ℕ → List File) → Event → Type 0) → (ℕ → List File) → Event → Type 0
+abbrev pub LoadsViewpoints : List (List ℕ) → List Viewpoint → (List Viewpoint → Course) → Course
 LoadsViewpoints [] found next = next found
 LoadsViewpoints (file ∷ files) found next = LoadsViewpoint file (λ p. LoadsViewpoints files (found ++ p ∷ []) next)
 
@@ -126,7 +129,7 @@ abbrev pub files_of : MapValue → List (List ℕ)
 files_of plan = map (λ (u : Use). u.file) plan.uses
 
 -- The merge: where the viewpoints do not merge it is refused, with their first fault, and else the work goes on.
-abbrev pub Merges : Merge → ((ℕ → List File) → Event → Type 0) → (ℕ → List File) → Event → Type 0
+abbrev pub Merges : Merge → Course → Course
 Merges m next moments event = MatchOption (merge_fault m) (next moments event) (λ fault. event ≡ Ends (Refusal (merge_line fault)))
 
 -- The formulas in a file: where the file has a fault it is refused, and else the work goes on with their tables.
@@ -151,36 +154,40 @@ abbrev pub Evaluates : Merge → List (List Kind) → Event → Type 0
 Evaluates m formulas event = MatchOption (states_excess m) (Ending (Reports m formulas) event) (λ count. event ≡ Ends (Refusal (states_line count)))
 
 -- the tasks of a check behind the merge
-abbrev pub FormulaTasks : Merge → List ℕ → List Row → (ℕ → List File) → Event → Type 0
+abbrev pub FormulaTasks : Merge → List ℕ → List Row → Course
 FormulaTasks m formulas rows moments event = ReadsFormulas formulas (signature_of m) (Evaluates m) rows event
 
 -- those behind its viewpoints, and those behind its map
-abbrev pub MergeTasks : MapValue → List ℕ → List Viewpoint → (ℕ → List File) → Event → Type 0
+abbrev pub MergeTasks : MapValue → List ℕ → List Viewpoint → Course
 MergeTasks plan formulas found = Merges (record { plan = plan; viewpoints = found }) (Opens formulas (FormulaTasks (record { plan = plan; viewpoints = found }) formulas))
 
-abbrev pub ViewpointTasks : List ℕ → MapValue → (ℕ → List File) → Event → Type 0
+abbrev pub ViewpointTasks : List ℕ → MapValue → Course
 ViewpointTasks formulas plan = LoadsViewpoints (files_of plan) [] (MergeTasks plan formulas)
 
 -- the canonical text of these lines is for out
-abbrev pub Shows : List (List (List ℕ)) → (ℕ → List File) → Event → Type 0
+abbrev pub Shows : List (List (List ℕ)) → Course
 Shows lines moments event = event ≡ Ends (Served Done (canonical lines))
 
 -- The tasks of a show behind the rows of its file: they are read as a file of the kind, and its canonical text is for out. No
 -- other file is loaded.
-abbrev pub ShowTasks : ShowKind → List ℕ → List Row → (ℕ → List File) → Event → Type 0
+abbrev pub ShowTasks : ShowKind → List ℕ → List Row → Course
 ShowTasks LatticeFile name = ReadsLattice name (λ l. Shows (lattice_lines l))
 ShowTasks ViewFile name = ReadsView name (λ v. Shows (view_lines v))
 ShowTasks MapFile name = ReadsMap name (λ plan. Shows (map_lines plan))
 
 -- The course of a request: its tasks in their order.
-abbrev pub IsCourse : Request → (ℕ → List File) → Event → Type 0
+abbrev pub IsCourse : Request → Course
 IsCourse (LatticeOf name) = Opens name (λ rows moments. Ending (JudgesLattice name rows))
 IsCourse (CheckOf sigmap formulas) = Opens sigmap (ReadsMap sigmap (ViewpointTasks formulas))
 IsCourse (ShowOf kind name) = Opens name (ShowTasks kind name)
 
--- the outcome of words over files; words that are no request have none
+-- where each load finds what it does, the words have that outcome; words that are no request have none
+abbrev pub ComesOfWords : List (List ℕ) → (ℕ → List File) → Outcome → Type 0
+ComesOfWords words moments outcome = MatchOption (request_of words) ⊥ (λ request. IsCourse request moments (Ends outcome))
+
+-- the outcome of words over files
 abbrev pub IsOutcome : List (List ℕ) → List File → Outcome → Type 0
-IsOutcome words files outcome = MatchOption (request_of words) ⊥ (λ request. IsCourse request (always files) (Ends outcome))
+IsOutcome words files outcome = ComesOfWords words (always files) outcome
 
 -- a load of that name is reached, where each load finds what it does
 abbrev pub IsReached : Request → (ℕ → List File) → List ℕ → Type 0

@@ -35,11 +35,17 @@ broken_text law names = line (codes "broken " ++ law_word law ++ flat_map (λ na
 abbrev pub words_line : List ℕ
 words_line = line (codes "refused words")
 
-abbrev pub memory_line : List ℕ
-memory_line = line (codes "fault memory")
-
 abbrev pub file_line : List ℕ → List ℕ
 file_line name = line (codes "refused file " ++ name)
+
+abbrev pub read_line : List ℕ → List ℕ
+read_line name = line (codes "fault read " ++ name)
+
+abbrev pub write_line : List ℕ
+write_line = line (codes "fault write")
+
+abbrev pub memory_line : List ℕ
+memory_line = line (codes "fault memory")
 
 -- for a lattice that breaks a law, where the request is not to judge it
 abbrev pub broken_line : List ℕ → Law → List (List ℕ) → List ℕ
@@ -78,9 +84,3 @@ merge_line faults.Memory = memory_line
 -- for too many states
 abbrev pub states_line : ℕ → List ℕ
 states_line count = line (codes "refused states " ++ decimal count)
-
-abbrev pub read_line : List ℕ → List ℕ
-read_line name = line (codes "fault read " ++ name)
-
-abbrev pub write_line : List ℕ
-write_line = line (codes "fault write")

@@ -14,7 +14,7 @@ use Rattle.xc_merge.specs.declared.fault.MergeFault.TheVariants as faults
 use Rattle.std.specs.String.{string_bytes}
 use Rattle.xc_base.specs.Shelves.{Told, Shelved, IsLoaded, HasRisen}
 use Rattle.xc_base.specs.declared.shelf.File.{File}
-use Rattle.xc_top.specs.Outcomes.{Event, Ends, Outcome, Refusal, Served, Reports, always, file_limit, IsCourse}
+use Rattle.xc_top.specs.Outcomes.{Course, Event, Ends, Outcome, Refusal, Served, Reports, always, file_limit, IsCourse}
 use Rattle.xc_top.specs.Writing.{CanReport, passed_status}
 use Rattle.xc_machine.specs.Machines.{merge_of}
 use Rattle.xc_machine.specs.declared.machine.Machine.{Machine}
@@ -54,8 +54,8 @@ ComesTo P (Err (ReadFault line)) = ⊥
 ComesTo P (Err WriteFault) = ⊥
 
 -- the work comes to an end of the course, whatever the loads behind it find
-abbrev pub Comes : ((ℕ → List File) → Event → Type 0) → Result Answer Halt → Type 0
-Comes Course result = ComesTo (λ outcome. (moments : ℕ → List File) → Course moments (Ends outcome)) result
+abbrev pub Comes : Course → Result Answer Halt → Type 0
+Comes tasks result = ComesTo (λ outcome. (moments : ℕ → List File) → tasks moments (Ends outcome)) result
 
 -- where files are told, the failed names grew by that one
 abbrev pub AddsFailed : List ℕ → Shelved → Shelved → Type 0
@@ -75,30 +75,30 @@ IsLoadHalt name shelf shelf_after (Refused line) = ⊥
 IsLoadHalt name shelf shelf_after WriteFault = ⊥
 
 -- where each load finds some files, the course ends with that outcome
-pub record CanEnd (Course : (ℕ → List File) → Event → Type 0) (outcome : Outcome) : Type 0 where
+pub record CanEnd (tasks : Course) (outcome : Outcome) : Type 0 where
   pub moments : ℕ → List File
-  pub ended : Course moments (Ends outcome)
+  pub ended : tasks moments (Ends outcome)
 
 -- the same, and where files are told the course over them does
-abbrev pub EndsWith : ((ℕ → List File) → Event → Type 0) → Shelved → Outcome → Type 0
-EndsWith Course shelf outcome = CanEnd Course outcome × IfSome shelf.told (λ told. Course (always told.files) (Ends outcome))
+abbrev pub EndsWith : Course → Shelved → Outcome → Type 0
+EndsWith tasks shelf outcome = CanEnd tasks outcome × IfSome shelf.told (λ told. tasks (always told.files) (Ends outcome))
 
 -- what became of a course: an answer or a refusal is its end, and a load that failed is one that it reaches
-abbrev pub IsPrepared : ((ℕ → List File) → Event → Type 0) → Shelved → Shelved → Result Answer Halt → Type 0
-IsPrepared Course shelf shelf_after (Ok answer) = StandsFor (EndsWith Course shelf) answer
-IsPrepared Course shelf shelf_after (Err (Refused line)) = EndsWith Course shelf (Refusal (string_bytes line))
-IsPrepared Course shelf shelf_after (Err (ReadFault line)) = HasRisen shelf.faults shelf_after.faults × FailedOnce Course shelf shelf_after (λ name. string_bytes line ≡ read_line name)
-IsPrepared Course shelf shelf_after (Err Memory) = KeepsOrFails Course shelf shelf_after
-IsPrepared Course shelf shelf_after (Err Words) = ⊥
-IsPrepared Course shelf shelf_after (Err WriteFault) = ⊥
+abbrev pub IsPrepared : Course → Shelved → Shelved → Result Answer Halt → Type 0
+IsPrepared tasks shelf shelf_after (Ok answer) = StandsFor (EndsWith tasks shelf) answer
+IsPrepared tasks shelf shelf_after (Err (Refused line)) = EndsWith tasks shelf (Refusal (string_bytes line))
+IsPrepared tasks shelf shelf_after (Err (ReadFault line)) = HasRisen shelf.faults shelf_after.faults × FailedOnce tasks shelf shelf_after (λ name. string_bytes line ≡ read_line name)
+IsPrepared tasks shelf shelf_after (Err Memory) = KeepsOrFails tasks shelf shelf_after
+IsPrepared tasks shelf shelf_after (Err Words) = ⊥
+IsPrepared tasks shelf shelf_after (Err WriteFault) = ⊥
 
 -- a halt that became of a course
-abbrev pub IsHalted : ((ℕ → List File) → Event → Type 0) → Shelved → Shelved → Halt → Type 0
-IsHalted Course shelf shelf_after halt = IsPrepared Course shelf shelf_after (Err halt)
+abbrev pub IsHalted : Course → Shelved → Shelved → Halt → Type 0
+IsHalted tasks shelf shelf_after halt = IsPrepared tasks shelf shelf_after (Err halt)
 
 -- a halt that is an end of the course, whatever the loads behind it find
-abbrev pub Stops : ((ℕ → List File) → Event → Type 0) → Halt → Type 0
-Stops Course halt = Comes Course (Err halt)
+abbrev pub Stops : Course → Halt → Type 0
+Stops tasks halt = Comes tasks (Err halt)
 
 -- nothing is done behind something
 abbrev pub nothing : {X : Type 0} → X → (ℕ → List File) → Event → Type 0

@@ -9,12 +9,10 @@ use Rattle.xc_merge.specs.Merges.{Merge, parts_of}
 use Rattle.xc_merge.specs.Projections.{states_of}
 use Rattle.xc_merge.specs.MergedFrames.{merged_frame}
 use Rattle.xc_machine.specs.Machines.{merge_of}
-use Rattle.xc_machine.specs.declared.machine.Machine.{Machine}
 use Rattle.xc_ctl.specs.Tables.{is_table, is_table_in}
 use Rattle.xc_ctl.specs.Rounds.{RoundsTable, IsTableFor}
 use Rattle.xc_ctl.specs.Formulas.{nodes_in}
 use Rattle.xc_ctl.specs.FormulaFiles.{formula_limit}
-use Rattle.xc_ctl.specs.declared.formula.Formulas.{Formulas}
 use Rattle.xc_ctl.specs.declared.kind.Kind.{Kind}
 use Rattle.xc_report.specs.Reports.{head_text, block_text, blocks_text, report_text}
 use Rattle.xc_top.specs.Checks.{state_limit, AreTables}

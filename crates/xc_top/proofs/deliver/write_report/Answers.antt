@@ -1,4 +1,4 @@
-use Rattle.std.proofs.Common.{rules, List, map}
+use Rattle.std.proofs.Common.{rules, map}
 use Rattle.xc_ctl.specs.declared.formula.Formula.{Formula}
 use Rattle.xc_machine.specs.Machines.{merge_of}
 use Rattle.xc_top.specs.Writing.{IsHead}
