@@ -22,8 +22,7 @@ use Rattle.xc_ctl.specs.Formulas.{nodes_in}
 use Rattle.xc_ctl.specs.declared.formula.Formulas.{Formulas}
 use Rattle.xc_top.specs.Requests.{request_of}
 use Rattle.xc_top.specs.Texts.{read_line, file_line, broken_line, merge_line, value_line, name_line, total_line, product_line, no_initial_line, initial_line}
-use Rattle.xc_top.specs.Headline.{FailedOnce, KeepsOrFails, ForOutcome, IsRefusal, IsServed, MayRefuse, Serves, MayLoad, AddsAtMost, GetsLine, MayWrite}
-use Rattle.xc_top.specs.Asked.{halt_status, halt_line}
+use Rattle.xc_top.specs.Headline.{FailedOnce, KeepsOrFails, ForOutcome, IsRefusal, IsServed, MayRefuse, Serves, MayLoad, AddsAtMost, MayWrite}
 use Rattle.xc_base.specs.Sinks.{Sunk, AddsPart, AddsNothing, AddsFront}
 use Rattle.xc_top.specs.declared.halt.Halt.{Halt}
 use Rattle.xc_top.specs.declared.halt.Halt.TheVariants.{Words, Refused, ReadFault, WriteFault, Memory}
@@ -127,16 +126,6 @@ LeavesShelf old new (Err (Refused line)) = new ≡ old
 LeavesShelf old new (Err WriteFault) = new ≡ old
 LeavesShelf old new (Err (ReadFault line)) = Unit {0}
 LeavesShelf old new (Err Memory) = Unit {0}
-
--- the status of what serving came to
-abbrev pub ended : Result Passed Halt → Status
-ended (Ok passed) = passed_status passed
-ended (Err halt) = halt_status halt
-
--- err gets the line of a halt
-abbrev pub TellsErr : Result Passed Halt → Sunk → Sunk → Type 0
-TellsErr (Ok passed) err err_after = AddsNothing err.bytes err_after.bytes
-TellsErr (Err halt) err err_after = GetsLine (halt_line halt) err err_after
 
 -- the count of faults does not fall
 abbrev pub CountsOn : Shelved → Shelved → Type 0

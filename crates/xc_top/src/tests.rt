@@ -1,20 +1,8 @@
+use super::check_files::{CHAIN, DIAMOND, M3, TWO};
 use super::*;
 use std::alloc::Global;
 use std::test::Fail;
 use xc_base::{MemoryShelf, MemorySink};
-
-const TWO: &str = "lattice two\nelements F T\nbelow F T\nnot F T\nnot T F\n";
-
-const CHAIN: &str =
-    "lattice chain\nelements F M T\nbelow F M\nbelow M T\nnot F T\nnot M M\nnot T F\n";
-
-const DIAMOND: &str =
-    "lattice diamond\nelements F N B T\nbelow F N\nbelow F B\nbelow N T\nbelow B T\n\
-    not F T\nnot N N\nnot B B\nnot T F\n";
-
-const M3: &str =
-    "lattice m3\nelements 0 a b c 1\nbelow 0 a\nbelow 0 b\nbelow 0 c\nbelow a 1\nbelow b 1\nbelow c 1\n\
-    not 0 1\nnot a a\nnot b b\nnot c c\nnot 1 0\n";
 
 /// What a call of `run` leaves.
 #[derive(Drop)]
