@@ -10,8 +10,9 @@ mod side;
 mod views;
 
 pub use fault::GenFault;
-pub use laws::generated_files_are_named;
+pub use laws::{generated_files_are_named, generated_files_name_each_other};
 pub use making::make;
+pub use side::Side;
 
 #[cfg(test)]
 mod tests;

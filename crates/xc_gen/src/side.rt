@@ -3,9 +3,9 @@
 ghost use Rattle.std.specs.Prelude.{◌≡◌};
 ghost use Rattle.xc_gen.specs.Generated.{name_of, lattice_of, weight};
 
-/// One of the two viewpoints.
+/// One of the two viewpoints of generated files: `left` over a chain, and `right` over a diamond.
 #[derive(Clone, Copy, Debug)]
-pub(crate) enum Side {
+pub enum Side {
     Left,
     Right,
 }
