@@ -1,5 +1,5 @@
 -- What comes of the files of a check behind its viewpoints.
-use Rattle.std.proofs.Common.{◌≡◌, ℕ, zero, suc, ◌+◌, ◌<◌, ◌≤◌, List, [], ◌∷◌, ◌++◌, length, map, drop, get_or, length-append, Option, Some, None, Result, Ok, Err, MatchOption, refl, sym, ◌∙◌, ap, subst, arith}
+use Rattle.std.proofs.Common.{◌≡◌, ℕ, zero, suc, ◌+◌, ◌<◌, ◌≤◌, List, [], ◌∷◌, ◌++◌, length, map, drop, get_or, length-append, Option, Some, None, Result, Err, MatchOption, refl, sym, ◌∙◌, ap, subst, arith}
 use Rattle.std.proofs.lemmas.Bool.{lt-ltb}
 use Rattle.xc_base.specs.Formats.{Row, IsAccepted}
 use Rattle.xc_base.specs.Shelves.{Shelved}
@@ -19,8 +19,8 @@ use Rattle.xc_merge.specs.declared.fault.MergeFault.{MergeFault}
 use Rattle.xc_top.specs.Texts.{states_line, merge_line}
 use Rattle.xc_top.specs.Checks.{state_limit}
 use Rattle.xc_report.specs.Reports.{signature_of}
-use Rattle.xc_top.specs.Outcomes.{Outcome, Refusal, Event, Ends, Cuts, Merges, Reports, Evaluates, states_excess, FormulaTasks, LoadsViewpoint, LoadsViewpoints, files_of}
-use Rattle.xc_top.specs.Outcomes.ReadsFormulas.{faulty as formulas_faulty, accepted as formulas_accepted}
+use Rattle.xc_top.specs.Outcomes.{Outcome, Refusal, Event, Ends, Ending, Cuts, Merges, Reports, Evaluates, states_excess, FormulaTasks, LoadsViewpoint, LoadsViewpoints, files_of}
+use Rattle.xc_top.specs.Outcomes.Reads.{faulty, accepted}
 use Rattle.xc_top.specs.Writing.{AreGiven}
 use Rattle.xc_top.specs.Working.{ComesTo, Comes, CountsOn, IsCut, IsCutHalt, IsHalted, IsMergeRefusal, IsPrepared, IsRefusalHalt, IsFaultRefusal, IsReport, IsViewpoint, Stops, nothing}
 use Rattle.xc_merge.specs.Merges.{viewpoint_at}
@@ -36,9 +36,9 @@ use Rattle.xc_report.proofs.Machined.{are_named}
 use Rattle.xc_top.proofs.Reports.{some_report}
 use Rattle.xc_top.specs.declared.answer.Answer.{Answer}
 use Rattle.xc_top.specs.declared.halt.Halt.{Halt}
-use Rattle.xc_top.specs.declared.halt.Halt.TheVariants.{Words, Refused, ReadFault, WriteFault, Memory}
-use Rattle.xc_top.proofs.Courses.{stands_by, prepared_by, comes_prepared, cut_stops, cut_comes_to, refused_comes}
+use Rattle.xc_top.proofs.Courses.{prepared_by, comes_by, comes_prepared, cut_stops, cut_comes_to, refused_comes}
 use Rattle.xc_top.specs.Outcomes.{Course}
+use Rattle.xc_top.proofs.Judging.{ending_comes}
 use Rattle.xc_top.proofs.Opening.{viewpoint_halts, viewpoint_goes_on}
 
 -- the formulas' file
@@ -49,19 +49,15 @@ module _ (m : Merge) (formulas bytes : List ℕ) where
   pub formulas_refused : (rows : List Row) (halt : Halt) → IsCut bytes rows → IsRefusalHalt (IsFaultRefusal (formula_format (signature_of m)) formulas rows) halt → Stops (Cuts formulas (FormulaTasks m formulas) bytes) halt
   formulas_refused rows halt cut stopped =
       cut_comes_to formulas bytes (FormulaTasks m formulas) rows (Err halt) cut
-      (refused_comes (FormulaTasks m formulas rows) (IsFaultRefusal (formula_format (signature_of m)) formulas rows) halt (λ line r moments. formulas_faulty r.fault r.first (ap (λ x. Ends (Refusal x)) r.told)) stopped)
+      (refused_comes (FormulaTasks m formulas rows) (IsFaultRefusal (formula_format (signature_of m)) formulas rows) halt (λ line r moments. faulty r.fault r.first (ap (λ x. Ends (Refusal x)) r.told)) stopped)
 
-  evaluated_all : (rows : List Row) (tables : List (List Kind)) (result : Result Answer Halt) → IsAccepted (formula_format (signature_of m)) rows tables → ComesTo (λ outcome. Evaluates m tables (Ends outcome)) result → Comes (FormulaTasks m formulas rows) result
-  evaluated_all rows tables (Ok answer) accepted h = stands_by (λ o. Evaluates m tables (Ends o)) (λ o. (moments : ℕ → List File) → FormulaTasks m formulas rows moments (Ends o)) answer (λ o e moments. formulas_accepted tables accepted e) h
-  evaluated_all rows tables (Err (Refused line)) accepted h = λ moments. formulas_accepted tables accepted h
-  evaluated_all rows tables (Err Memory) accepted h = tt
-  evaluated_all rows tables (Err Words) accepted h = h
-  evaluated_all rows tables (Err (ReadFault line)) accepted h = h
-  evaluated_all rows tables (Err WriteFault) accepted h = h
+  evaluated_all : (rows : List Row) (tables : List (List Kind)) (moments : ℕ → List File) (event : Event) → IsAccepted (formula_format (signature_of m)) rows tables → Ending (Evaluates m tables) event → FormulaTasks m formulas rows moments event
+  evaluated_all rows tables moments event is h = accepted tables is h
 
-  pub formulas_evaluated : (rows : List Row) (tables : List (List Kind)) (result : Result Answer Halt) → IsCut bytes rows → IsAccepted (formula_format (signature_of m)) rows tables
-      → ComesTo (λ outcome. Evaluates m tables (Ends outcome)) result → Comes (Cuts formulas (FormulaTasks m formulas) bytes) result
-  formulas_evaluated rows tables result cut accepted h = cut_comes_to formulas bytes (FormulaTasks m formulas) rows result cut (evaluated_all rows tables result accepted h)
+  pub formulas_evaluated : (rows : List Row) (tables : List (List Kind)) (result : Result Answer Halt) → IsCut bytes rows → IsAccepted (formula_format (signature_of m)) rows tables → ComesTo (Evaluates m tables) result → Comes (Cuts formulas (FormulaTasks m formulas) bytes) result
+  formulas_evaluated rows tables result cut is h =
+      cut_comes_to formulas bytes (FormulaTasks m formulas) rows result cut
+      (comes_by (λ moments. Ending (Evaluates m tables)) (FormulaTasks m formulas rows) result (λ moments event. evaluated_all rows tables moments event is) (ending_comes (Evaluates m tables) result h))
 
 -- the limit of states
 few_states : (m : Merge) → states_of m.plan ≤ state_limit → states_excess m ≡ None
@@ -70,15 +66,15 @@ few_states m few = grind (arith)
 many_states : (m : Merge) → state_limit < states_of m.plan → states_excess m ≡ Some (states_of m.plan)
 many_states m many = rw (lt-ltb state_limit (states_of m.plan) many)
 
-pub too_many : (m : Merge) (tables : List (List Kind)) (line : List ℕ) → state_limit < states_of m.plan → line ≡ states_line (states_of m.plan) → Evaluates m tables (Ends (Refusal line))
-too_many m tables line many is = rw (many_states m many) (ap (λ x. Ends (Refusal x)) is)
+pub too_many : (m : Merge) (tables : List (List Kind)) (line : List ℕ) → state_limit < states_of m.plan → line ≡ states_line (states_of m.plan) → Evaluates m tables (Refusal line)
+too_many m tables line many is = rw (many_states m many) (ap Refusal is)
 
-few_on : (m : Merge) (tables : List (List Kind)) (outcome : Outcome) → states_of m.plan ≤ state_limit → Reports m tables outcome → Evaluates m tables (Ends outcome)
+few_on : (m : Merge) (tables : List (List Kind)) (outcome : Outcome) → states_of m.plan ≤ state_limit → Reports m tables outcome → Evaluates m tables outcome
 few_on m tables outcome few h = rw (few_states m few) h
 
 -- a report on a machine of few states
 pub reported : (machine : Machine) (formulas : Formulas) → states_of (merge_of machine).plan ≤ state_limit → AreGiven (merge_of machine) (nodes_in formulas) → IsFrame (merged_frame (merge_of machine))
-    → ((v : ℕ) → v < length (merge_of machine).viewpoints → IsFit (viewpoint_at (merge_of machine) v).lattice) → IsReport (λ outcome. Evaluates (merge_of machine) (nodes_in formulas) (Ends outcome)) machine formulas
+    → ((v : ℕ) → v < length (merge_of machine).viewpoints → IsFit (viewpoint_at (merge_of machine) v).lattice) → IsReport (Evaluates (merge_of machine) (nodes_in formulas)) machine formulas
 reported machine formulas few given framed fit =
     let m = merge_of machine in
     let heights = some_heights m (are_named m fit) in

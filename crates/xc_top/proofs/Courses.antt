@@ -1,5 +1,5 @@
 -- How courses are gone on with: a load, a cut, and what comes behind them.
-use Rattle.std.proofs.Common.{◌≡◌, refl, ℕ, zero, suc, ◌+◌, ◌<◌, ◌≤◌, Bool, ◌||◌, List, [], ◌∷◌, ◌++◌, Option, Some, None, Result, Ok, Err, MatchOption, IsSome, IfSome, true, cond, length, take, sym, ◌∙◌, ap, subst, arith, inl, inr, ◌⊎◌, eqb, ltb}
+use Rattle.std.proofs.Common.{◌≡◌, refl, ℕ, zero, suc, ◌+◌, ◌<◌, ◌≤◌, Bool, ◌||◌, List, [], ◌∷◌, ◌++◌, Option, Some, None, Result, Ok, Err, MatchOption, IfSome, true, cond, length, take, sym, ◌∙◌, ap, subst, arith, inl, inr, ◌⊎◌, eqb, ltb}
 use Rattle.std.specs.Option.{option_map}
 use Rattle.std.specs.String.{string_bytes}
 use Rattle.std.proofs.lemmas.Bool.{lt-ltb}
@@ -11,10 +11,10 @@ use Rattle.xc_base.specs.Lines.{text_rows}
 use Rattle.xc_base.specs.Text.{text_fault, first_fault_from, lines_of}
 use Rattle.xc_base.specs.declared.fault.TextFault.{TextFault}
 use Rattle.xc_base.specs.declared.fault.TextFault.TheVariants.{LongFile}
-use Rattle.xc_base.specs.Shelves.{Told, Shelved, IsLoaded, held, HasRisen}
+use Rattle.xc_base.specs.Shelves.{Told, Shelved, IsLoaded, IsAbsentIfSteady, held, HasRisen}
 use Rattle.xc_base.specs.declared.shelf.File.{File}
 use Rattle.xc_top.specs.Headline.{FailedOnce, KeepsOrFails}
-use Rattle.xc_top.specs.Texts.{file_line, read_line}
+use Rattle.xc_top.specs.Texts.{text_line, read_line}
 use Rattle.xc_top.specs.Outcomes.{Course, Outcome, Absent, Refusal, Served, Event, Ends, Loading, always, rest, file_limit, Cuts, Opens}
 use Rattle.xc_top.specs.Writing.{passed_status}
 use Rattle.xc_top.specs.Working.{AddsFailed, Comes, EndsWith, IsHalted, IsLoadHalt, IsPrepared, CountsOn, IsCut, IsCutHalt, IsRefusalHalt, StandsFor, Stops}
@@ -50,6 +50,7 @@ fails_by P Q shelf shelf_after S f h = record {
   moments = h.moments;
   reached = f h.moments (Loading h.name) h.reached;
   told = h.told;
+  absent = h.absent;
   failed = told_map shelf.told (λ t both. (f (always t.files) (Loading h.name) both.0, both.1)) h.failed;
 }
 
@@ -80,19 +81,28 @@ prepared_by P Q shelf shelf_after (Err Memory) f h = keeps_by P Q shelf shelf_af
 prepared_by P Q shelf shelf_after (Err Words) f h = h
 prepared_by P Q shelf shelf_after (Err WriteFault) f h = h
 
+-- what comes whatever the loads find, of a course that is another, comes of that one
+pub comes_by : (P Q : Course) (result : Result Answer Halt) → ((m : ℕ → List File) (e : Event) → P m e → Q m e) → Comes P result → Comes Q result
+comes_by P Q (Ok answer) f h = stands_by (λ o. (m : ℕ → List File) → P m (Ends o)) (λ o. (m : ℕ → List File) → Q m (Ends o)) answer (λ o c m. f m (Ends o) (c m)) h
+comes_by P Q (Err (Refused line)) f h = λ m. f m (Ends (Refusal (string_bytes line))) (h m)
+comes_by P Q (Err Memory) f h = tt
+comes_by P Q (Err Words) f h = h
+comes_by P Q (Err (ReadFault line)) f h = h
+comes_by P Q (Err WriteFault) f h = h
+
 -- a cut
 module _ (name bytes : List ℕ) (next : List Row → Course) where
   pub cut_on : (rows : List Row) → IsCut bytes rows → (m : ℕ → List File) (e : Event) → next rows m e → Cuts name next bytes m e
   cut_on rows cut m e h =
-      subst (λ (fault : Option TextFault). MatchOption fault (next (text_rows bytes) m e) (λ f. e ≡ Ends (Refusal (file_line name)))) (sym cut.sound)
+      subst (λ (fault : Option TextFault). MatchOption fault (next (text_rows bytes) m e) (λ f. e ≡ Ends (Refusal (text_line name f)))) (sym cut.sound)
       (subst (λ (rs : List Row). next rs m e) cut.same h)
 
-  refused_cut : (fault : Option TextFault) (line : List ℕ) → IsSome fault → line ≡ file_line name → (m : ℕ → List File) → MatchOption fault (next (text_rows bytes) m (Ends (Refusal line))) (λ f. Ends (Refusal line) ≡ Ends (Refusal (file_line name)))
-  refused_cut None line some told m = cc
-  refused_cut (Some fault) line some told m = ap (λ l. Ends (Refusal l)) told
+  refused_cut : (fault : Option TextFault) (line : List ℕ) → MatchOption fault ⊥ (λ f. line ≡ text_line name f) → (m : ℕ → List File) → MatchOption fault (next (text_rows bytes) m (Ends (Refusal line))) (λ f. Ends (Refusal line) ≡ Ends (Refusal (text_line name f)))
+  refused_cut None line told m = absurd told
+  refused_cut (Some fault) line told m = ap (λ l. Ends (Refusal l)) told
 
   pub cut_stops : (halt : Halt) → IsCutHalt name bytes halt → Comes (Cuts name next bytes) (Err halt)
-  cut_stops (Refused line) stopped = λ m. refused_cut (text_fault file_limit bytes) (string_bytes line) stopped.0 stopped.1 m
+  cut_stops (Refused line) stopped = λ m. refused_cut (text_fault file_limit bytes) (string_bytes line) stopped m
   cut_stops Memory stopped = tt
   cut_stops Words stopped = stopped
   cut_stops (ReadFault line) stopped = stopped
@@ -102,12 +112,7 @@ module _ (name bytes : List ℕ) (next : List Row → Course) where
   cut_goes_on rows shelf shelf_after result cut h = prepared_by (next rows) (Cuts name next bytes) shelf shelf_after result (cut_on rows cut) h
 
   pub cut_comes_to : (rows : List Row) (result : Result Answer Halt) → IsCut bytes rows → Comes (next rows) result → Comes (Cuts name next bytes) result
-  cut_comes_to rows (Ok answer) cut h = stands_by (λ o. (m : ℕ → List File) → next rows m (Ends o)) (λ o. (m : ℕ → List File) → Cuts name next bytes m (Ends o)) answer (λ o c m. cut_on rows cut m (Ends o) (c m)) h
-  cut_comes_to rows (Err (Refused line)) cut h = λ m. cut_on rows cut m (Ends (Refusal (string_bytes line))) (h m)
-  cut_comes_to rows (Err Memory) cut h = tt
-  cut_comes_to rows (Err Words) cut h = h
-  cut_comes_to rows (Err (ReadFault line)) cut h = h
-  cut_comes_to rows (Err WriteFault) cut h = h
+  cut_comes_to rows result cut h = comes_by (next rows) (Cuts name next bytes) result (cut_on rows cut) h
 
 -- a text that is too long
 too_long : (bytes : List ℕ) → file_limit < length bytes → text_fault file_limit bytes ≡ Some LongFile
@@ -132,6 +137,7 @@ module _ (P : Course) (before shelf shelf_after : Shelved) (same : shelf.told �
     moments = h.moments;
     reached = h.reached;
     told = h.told;
+    absent = subst (λ (told : Option Told). IsAbsentIfSteady told h.name) same h.absent;
     failed = subst (λ (told : Option Told). IfSome told (λ t. P (always t.files) (Loading h.name) × (shelf_after.told ≡ Some (record t { failed = t.failed ++ h.name ∷ [] })))) same h.failed;
   }
 
@@ -153,9 +159,9 @@ module _ (name : List ℕ) (next : List Row → Course) where
   by_length : (file : List ℕ) (m : ℕ → List File) (e : Event) → ((file_limit < length file) ⊎ (length file ≤ file_limit)) → Cuts name next (take (file_limit + 1) file) m e → Cuts name next file m e
   by_length file m e (inl long) h =
       let front : file_limit < length (take (file_limit + 1) file) = rw length-take (omega arith) in
-      let is : e ≡ Ends (Refusal (file_line name)) =
-      subst (λ (f : Option TextFault). MatchOption f (next (text_rows (take (file_limit + 1) file)) m e) (λ _. e ≡ Ends (Refusal (file_line name)))) (too_long (take (file_limit + 1) file) front) h in
-      subst (λ (f : Option TextFault). MatchOption f (next (text_rows file) m e) (λ _. e ≡ Ends (Refusal (file_line name)))) (sym (too_long file long)) is
+      let is : e ≡ Ends (Refusal (text_line name LongFile)) =
+      subst (λ (f : Option TextFault). MatchOption f (next (text_rows (take (file_limit + 1) file)) m e) (λ t. e ≡ Ends (Refusal (text_line name t)))) (too_long (take (file_limit + 1) file) front) h in
+      subst (λ (f : Option TextFault). MatchOption f (next (text_rows file) m e) (λ t. e ≡ Ends (Refusal (text_line name t)))) (sym (too_long file long)) is
   by_length file m e (inr short) h = subst (λ (bytes : List ℕ). Cuts name next bytes m e) (take_all (file_limit + 1) file (omega arith)) h
 
   front_on : (bytes : List ℕ) (found : Option (List ℕ)) (m : ℕ → List File) (e : Event) → option_map (take (file_limit + 1)) found ≡ Some bytes → Cuts name next bytes m e → MatchOption found (e ≡ Ends (Absent name)) (λ file. Cuts name next file m e)
@@ -198,6 +204,7 @@ module _ (name : List ℕ) (next : List Row → Course) where
     moments = onto (one_file bytes) h.moments;
     reached = found_on bytes h.moments (Loading h.name) h.reached;
     told = h.told;
+    absent = h.absent;
     failed = told_step shelf.told bytes loaded (λ t l both. (told_on t bytes (Loading h.name) l both.0, both.1)) h.failed;
   }
 
@@ -227,16 +234,16 @@ module _ (name : List ℕ) (next : List Row → Course) where
   one_more None told_after e = tt
   one_more (Some told) told_after e = (inl refl, e)
 
-  failed_first : {S : List ℕ → Type 0} (shelf shelf_after : Shelved) → S name → AddsFailed name shelf shelf_after → FailedOnce (Opens name next) shelf shelf_after S
-  failed_first shelf shelf_after holds told = record { name = name; moments = some_moments; reached = inl refl; told = holds; failed = one_more shelf.told shelf_after.told told }
+  failed_first : {S : List ℕ → Type 0} (shelf shelf_after : Shelved) → S name → AddsFailed name shelf shelf_after → IsAbsentIfSteady shelf.told name → FailedOnce (Opens name next) shelf shelf_after S
+  failed_first shelf shelf_after holds told absent = record { name = name; moments = some_moments; reached = inl refl; told = holds; absent = absent; failed = one_more shelf.told shelf_after.told told }
 
-  memory_first : (shelf shelf_after : Shelved) → (shelf_after.told ≡ shelf.told) ⊎ AddsFailed name shelf shelf_after → KeepsOrFails (Opens name next) shelf shelf_after
+  memory_first : (shelf shelf_after : Shelved) → (shelf_after.told ≡ shelf.told) ⊎ (AddsFailed name shelf shelf_after × IsAbsentIfSteady shelf.told name) → KeepsOrFails (Opens name next) shelf shelf_after
   memory_first shelf shelf_after (inl same) = inl same
-  memory_first shelf shelf_after (inr told) = inr (failed_first shelf shelf_after tt told)
+  memory_first shelf shelf_after (inr told) = inr (failed_first shelf shelf_after tt told.0 told.1)
 
   -- a load that gave none
   pub load_halted : (shelf shelf_after : Shelved) (halt : Halt) → IsLoadHalt name shelf shelf_after halt → IsHalted (Opens name next) shelf shelf_after halt
-  load_halted shelf shelf_after (ReadFault line) failed = (failed.counted, failed_first shelf shelf_after failed.named failed.told)
+  load_halted shelf shelf_after (ReadFault line) failed = (failed.counted, failed_first shelf shelf_after failed.named failed.told failed.absent)
   load_halted shelf shelf_after Memory failed = memory_first shelf shelf_after failed
   load_halted shelf shelf_after Words failed = failed
   load_halted shelf shelf_after (Refused line) failed = absurd failed
@@ -245,7 +252,7 @@ module _ (name : List ℕ) (next : List Row → Course) where
 -- where one course behind a load is another, so is the whole
 pub cuts_by : (name : List ℕ) (next more : List Row → Course) → ((rows : List Row) (m : ℕ → List File) (e : Event) → next rows m e → more rows m e) → (bytes : List ℕ) (m : ℕ → List File) (e : Event) → Cuts name next bytes m e → Cuts name more bytes m e
 cuts_by name next more f bytes m e h = by_fault (text_fault file_limit bytes) h where
-  by_fault : (fault : Option TextFault) → MatchOption fault (next (text_rows bytes) m e) (λ f. e ≡ Ends (Refusal (file_line name))) → MatchOption fault (more (text_rows bytes) m e) (λ f. e ≡ Ends (Refusal (file_line name)))
+  by_fault : (fault : Option TextFault) → MatchOption fault (next (text_rows bytes) m e) (λ f. e ≡ Ends (Refusal (text_line name f))) → MatchOption fault (more (text_rows bytes) m e) (λ f. e ≡ Ends (Refusal (text_line name f)))
   by_fault None h = f (text_rows bytes) m e h
   by_fault (Some fault) h = h
 

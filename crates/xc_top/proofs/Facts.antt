@@ -1,6 +1,6 @@
--- Requests, texts and what a check evaluates at small cases whose values are known from outside: a wrong definition does not check here.
-use Rattle.std.specs.Fmt.{decimal}
-use Rattle.std.proofs.Common.{◌≡◌, ℕ, List, [], ◌∷◌, ◌++◌, Some, None, codes, refl}
+-- Texts and what a check evaluates at small cases whose values are known from outside: a wrong definition does not check here.
+use Rattle.std.specs.Fmt.{decimal, digits}
+use Rattle.std.proofs.Common.{◌≡◌, ℕ, List, [], ◌∷◌, ◌++◌, codes, refl}
 use Rattle.xc_theory.specs.Bounds.{first_meet, first_join}
 use Rattle.xc_theory.proofs.Facts.{two, chain}
 use Rattle.xc_expr.specs.Tests as tests
@@ -14,18 +14,14 @@ use Rattle.xc_sigmap.specs.MapFiles.{map_format}
 use Rattle.xc_top.specs.declared.status.Status.TheVariants.{Done}
 use Rattle.xc_merge.specs.Merges.{Merge}
 use Rattle.xc_merge.specs.declared.fault.MergeFault.TheVariants.{UnknownValue, UnknownName, NotTotal, Elements, NoInitial, Initial}
-use Rattle.xc_top.specs.Requests.{request_of, LatticeOf, CheckOf, ShowOf, LatticeFile, ViewFile, MapFile}
-use Rattle.xc_top.specs.Texts.{lattice_text, broken_text, words_line, file_line, broken_line, merge_line, states_line, read_line, write_line, memory_line}
+use Rattle.xc_base.specs.declared.fault.TextFault.TheVariants.{LongFile, BadByte, LongLine}
+use Rattle.xc_base.specs.declared.fault.FileFault.TheVariants.{NoStatement, Repeated, Unknown, Count, Missing}
+use Rattle.xc_base.specs.declared.fault.Counted.TheVariants as counted
+use Rattle.xc_base.specs.declared.fault.Part.TheVariants as parts
+use Rattle.xc_words.specs.declared.asked.ShowKind.TheVariants as kinds
+use Rattle.xc_top.specs.Texts.{lattice_text, broken_text, words_line, text_line, fault_line, broken_line, merge_line, states_line, size_line, read_line, write_line, memory_line}
 use Rattle.xc_top.specs.Outcomes.{Ends, Refusal, Served, files_of, ShowTasks}
-use Rattle.xc_top.specs.Outcomes.ReadsMap.{accepted as map_accepted}
-use Rattle.xc_top.specs.Outcomes.ReadsView.{accepted as view_accepted}
-
--- the requests, and words that are none
-pub requests : (request_of (codes "lattice" ∷ codes "a" ∷ []) ≡ Some (LatticeOf (codes "a"))) × (request_of (codes "check" ∷ codes "a" ∷ codes "b" ∷ []) ≡ Some (CheckOf (codes "a") (codes "b")))
-    × (request_of (codes "show" ∷ codes "lattice" ∷ codes "a" ∷ []) ≡ Some (ShowOf LatticeFile (codes "a"))) × (request_of (codes "show" ∷ codes "view" ∷ codes "map" ∷ []) ≡ Some (ShowOf ViewFile (codes "map"))) × (request_of (codes "show" ∷ codes "map" ∷ codes "view" ∷ []) ≡ Some (ShowOf MapFile (codes "view")))
-    × (request_of (codes "show" ∷ codes "guard" ∷ codes "a" ∷ []) ≡ None) × (request_of (codes "view" ∷ codes "show" ∷ codes "a" ∷ []) ≡ None) × (request_of (codes "show" ∷ codes "view" ∷ []) ≡ None) × (request_of (codes "show" ∷ codes "view" ∷ codes "a" ∷ codes "b" ∷ []) ≡ None)
-    × (request_of [] ≡ None) × (request_of (codes "check" ∷ codes "a" ∷ []) ≡ None) × (request_of (codes "lattice" ∷ codes "a" ∷ codes "b" ∷ []) ≡ None) × (request_of (codes "Lattice" ∷ codes "a" ∷ []) ≡ None)
-requests = (refl, refl, refl, refl, refl, refl, refl, refl, refl, refl, refl, refl, refl)
+use Rattle.xc_top.specs.Outcomes.Reads.{accepted}
 
 abbrev lines : List ℕ → List ℕ
 lines text = text ++ 10 ∷ []
@@ -43,10 +39,22 @@ unfolding first_meet first_join
 lattice_texts = (refl, refl, refl, refl)
 
 -- the lines for err
-pub err_lines : (words_line ≡ lines (codes "refused words")) × (file_line (codes "e.lat") ≡ lines (codes "refused file e.lat")) × (broken_line (codes "m3.lat") Distributive (codes "a" ∷ codes "b" ∷ []) ≡ lines (codes "refused broken m3.lat distributive a b"))
-    × (states_line 8192 ≡ lines (codes "refused states " ++ decimal 8192))
+pub err_lines : (words_line ≡ lines (codes "refused words")) × (broken_line (codes "m3.lat") Distributive (codes "a" ∷ codes "b" ∷ []) ≡ lines (codes "refused broken m3.lat distributive a b"))
+    × (states_line 8192 ≡ lines (codes "refused states " ++ decimal 8192)) × (size_line 21 ≡ lines (codes "refused size " ++ decimal 21))
     × (read_line (codes "two.lat") ≡ lines (codes "fault read two.lat")) × (write_line ≡ lines (codes "fault write")) × (memory_line ≡ lines (codes "fault memory"))
 err_lines = (refl, refl, refl, refl, refl, refl, refl)
+
+-- for texts that are not cut, and for statements that are at fault
+pub text_lines : (text_line (codes "a b.lat") LongFile ≡ lines (codes "refused longfile a b.lat")) × (text_line (codes "b.lat") (BadByte 2) ≡ lines (codes "refused byte b.lat 2")) × (text_line (codes "l.lat") (LongLine 2) ≡ lines (codes "refused longline l.lat 2"))
+unfolding digits
+text_lines = (refl, refl, refl)
+
+pub fault_lines : (fault_line (codes "f") (NoStatement 1) ≡ lines (codes "refused grammar f 1")) × (fault_line (codes "f") (Repeated 2) ≡ lines (codes "refused repeated f 2")) × (fault_line (codes "f") (Unknown 3) ≡ lines (codes "refused unknown f 3"))
+    × (fault_line (codes "k.lat") (Count 2 counted.Elements 65) ≡ lines (codes "refused count k.lat 2 elements 65")) × (fault_line (codes "big.map") (Count 23 counted.States 2097152) ≡ lines (codes "refused count big.map 23 states 2097152"))
+    × (fault_line (codes "e.lat") (Missing parts.Head) ≡ lines (codes "refused missing e.lat head")) × (fault_line (codes "n.lat") (Missing (parts.Not (codes "M"))) ≡ lines (codes "refused missing n.lat not M")) × (fault_line (codes "m") (Missing parts.Uses) ≡ lines (codes "refused missing m use"))
+    × (fault_line (codes "z.ctl") (Missing parts.Formula) ≡ lines (codes "refused missing z.ctl formula"))
+unfolding digits
+fault_lines = (refl, refl, refl, refl, refl, refl, refl, refl, refl)
 
 -- the lines for viewpoints that do not merge
 pub merge_lines : (merge_line (UnknownValue (codes "bob") (codes "X")) ≡ lines (codes "refused value bob X")) × (merge_line (UnknownName (codes "bob") (codes "y")) ≡ lines (codes "refused name bob y")) × (merge_line (NotTotal (codes "bob") (codes "x")) ≡ lines (codes "refused total bob x"))
@@ -91,18 +99,18 @@ pair_shown =
     ++ lines (codes "send ben x x")
 
 module _ (name : List ℕ) (rows : List Row) (moments : ℕ → List File) where
-  pub lattice_shown : IsVerdict rows (Lawful of_chain) → ShowTasks LatticeFile name rows moments (Ends (Served Done chain_shown))
+  pub lattice_shown : IsVerdict rows (Lawful of_chain) → ShowTasks kinds.Lattice name rows moments (Ends (Served Done chain_shown))
   unfolding canonical spaced
   lattice_shown is = record { verdict = Lawful of_chain; judged = is; comes = refl }
 
   -- a lattice that breaks a law is refused, and not shown
-  pub broken_not_shown : IsVerdict rows (Unlawful Distributive (codes "a" ∷ codes "b" ∷ codes "c" ∷ [])) → ShowTasks LatticeFile name rows moments (Ends (Refusal (broken_line name Distributive (codes "a" ∷ codes "b" ∷ codes "c" ∷ []))))
+  pub broken_not_shown : IsVerdict rows (Unlawful Distributive (codes "a" ∷ codes "b" ∷ codes "c" ∷ [])) → ShowTasks kinds.Lattice name rows moments (Ends (Refusal (broken_line name Distributive (codes "a" ∷ codes "b" ∷ codes "c" ∷ []))))
   broken_not_shown is = record { verdict = Unlawful Distributive (codes "a" ∷ codes "b" ∷ codes "c" ∷ []); judged = is; comes = refl }
 
-  pub view_shown : IsAccepted view_format rows seen → ShowTasks ViewFile name rows moments (Ends (Served Done seen_shown))
+  pub view_shown : IsAccepted view_format rows seen → ShowTasks kinds.View name rows moments (Ends (Served Done seen_shown))
   unfolding canonical spaced
-  view_shown is = view_accepted seen is refl
+  view_shown is = accepted seen is refl
 
-  pub map_shown : IsAccepted map_format rows pair.plan → ShowTasks MapFile name rows moments (Ends (Served Done pair_shown))
+  pub map_shown : IsAccepted map_format rows pair.plan → ShowTasks kinds.Map name rows moments (Ends (Served Done pair_shown))
   unfolding canonical spaced
-  map_shown is = map_accepted pair.plan is refl
+  map_shown is = accepted pair.plan is refl

@@ -9,5 +9,6 @@ pub mod Outcomes
 pub mod Serving
 pub mod Existence
 pub mod Facts
+pub mod Generating
 pub mod Given
 pub mod Delivering

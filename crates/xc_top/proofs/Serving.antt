@@ -4,7 +4,11 @@ use Rattle.std.specs.String.{string_bytes}
 use Rattle.xc_base.specs.Shelves.{Told, Shelved}
 use Rattle.xc_base.specs.Sinks.{Sunk, AddsWhole, AddsPart, AddsFront}
 use Rattle.xc_base.specs.declared.shelf.File.{File}
-use Rattle.xc_top.specs.Requests.{Request, request_of}
+use Rattle.xc_words.specs.Requests.{request_of, Answers}
+use Rattle.xc_words.specs.declared.fault.WordsFault.{WordsFault}
+use Rattle.xc_words.specs.declared.fault.WordsFault.TheVariants as faults
+use Rattle.xc_top.specs.Asked.{words_halt}
+use Rattle.xc_words.specs.declared.asked.Request.{Request}
 use Rattle.xc_top.specs.Texts.{read_line}
 use Rattle.xc_top.specs.Outcomes.{Outcome, Absent, Refusal, Served, Ends, always, IsCourse, IsOutcome, IsReached}
 use Rattle.xc_top.specs.Headline.{IsServed, IsRefusal, MayRefuse, MayServe, MayWrite, MayLoad, AddsAtMost, FailedOnce, KeepsOrFails}
@@ -63,21 +67,33 @@ for_all words (Some told) P all = λ o is. all o
 keeps_asked : (words : List (List ℕ)) (request : Request) (shelf shelf_after : Shelved) → Some request ≡ request_of words → KeepsOrFails (IsCourse request) shelf shelf_after → MatchOption (request_of words) (shelf_after.told ≡ shelf.told) (λ q. KeepsOrFails (IsCourse q) shelf shelf_after)
 keeps_asked words request shelf shelf_after e h = subst (λ (r : Option Request). MatchOption r (shelf_after.told ≡ shelf.told) (λ q. KeepsOrFails (IsCourse q) shelf shelf_after)) e h
 
+-- where the words were not read, nothing was done
+pub not_asked : (words : List (List ℕ)) (shelf : Shelved) (out : Sunk) (fault : WordsFault) → Answers (request_of words) (Err fault) → IsWorked words shelf shelf out out (Err (words_halt fault))
+not_asked words shelf out faults.Words none = (none, refl)
+not_asked words shelf out faults.Memory none = (for_all words shelf.told (AddsAtMost out.bytes out.bytes) (at_most_none out.bytes), λ n. refl, kept_asked (request_of words), inl refl, refl) where
+  kept_asked : (found : Option Request) → MatchOption found (shelf.told ≡ shelf.told) (λ q. KeepsOrFails (IsCourse q) shelf shelf)
+  kept_asked None = refl
+  kept_asked (Some request) = inl refl
+
 -- where preparing stopped, nothing was written
-pub halted : (words : List (List ℕ)) (request : Request) (shelf shelf_after : Shelved) (out : Sunk) (halt : Halt) → Some request ≡ request_of words
+halts_at : (words : List (List ℕ)) (request : Request) (shelf shelf_after : Shelved) (out : Sunk) (halt : Halt) → Some request ≡ request_of words
     → IsPrepared (IsCourse request) shelf shelf_after (Err halt) → IsWorked words shelf shelf_after out out (Err halt)
-halted words request shelf shelf_after out Words e p = absurd p
-halted words request shelf shelf_after out (Refused line) e p =
+halts_at words request shelf shelf_after out Words e p = absurd p
+halts_at words request shelf shelf_after out (Refused line) e p =
     (some_request (request_of words) request e, may_refuse words request (string_bytes line) e p.0, settled words request shelf.told (Refusal (string_bytes line)) (IsRefusal (λ l. string_bytes line ≡ l)) e p.1 refl, refl)
-halted words request shelf shelf_after out (ReadFault line) e p = (
+halts_at words request shelf shelf_after out (ReadFault line) e p = (
   some_request (request_of words) request e,
   record { name = p.1.name; may = may_load words request p.1.name p.1.moments e p.1.reached; named = p.1.told },
   p.0,
   subst (λ (r : Option Request). IfSome r (λ q. FailedOnce (IsCourse q) shelf shelf_after (λ name. string_bytes line ≡ read_line name))) e p.1,
   refl,
 )
-halted words request shelf shelf_after out WriteFault e p = absurd p
-halted words request shelf shelf_after out Memory e p = (for_all words shelf.told (AddsAtMost out.bytes out.bytes) (at_most_none out.bytes), λ n. refl, keeps_asked words request shelf shelf_after e p, inl refl, refl)
+halts_at words request shelf shelf_after out WriteFault e p = absurd p
+halts_at words request shelf shelf_after out Memory e p = (for_all words shelf.told (AddsAtMost out.bytes out.bytes) (at_most_none out.bytes), λ n. refl, keeps_asked words request shelf shelf_after e p, inl refl, refl)
+
+pub halted : (words : List (List ℕ)) (request : Request) (shelf shelf_after : Shelved) (out : Sunk) (halt : Halt) → request_of words ≡ Some request
+    → IsPrepared (IsCourse request) shelf shelf_after (Err halt) → IsWorked words shelf shelf_after out out (Err halt)
+halted words request shelf shelf_after out halt e p = halts_at words request shelf shelf_after out halt (sym e) p
 
 no_request : {P : Type 0} (found : Option Request) (request : Request) → Some request ≡ found → found ≡ None → P
 no_request None request e n = cc
@@ -94,7 +110,10 @@ is_ready P (Text passed text) h = tt
 is_ready P (Report machine formulas) h = h.ready
 
 -- where an outcome was served, its text was written, or a front of it
-module _ (words : List (List ℕ)) (request : Request) (shelf shelf_after : Shelved) (old new : Sunk) (e : Some request ≡ request_of words) (same : shelf_after.told ≡ shelf.told) where
+module _ (words : List (List ℕ)) (request : Request) (shelf shelf_after : Shelved) (old new : Sunk) (is : request_of words ≡ Some request) (same : shelf_after.told ≡ shelf.told) where
+  e : Some request ≡ request_of words
+  e = sym is
+
   may_write : (status : Status) (text : List ℕ) (P : List ℕ → Type 0) → CanEnd (IsCourse request) (Served status text) → P text → MayWrite words P
   may_write status text P can holds = record {
     moments = can.moments;

@@ -1,27 +1,13 @@
--- The code's requests, endings and answers, as what they stand for.
+-- The code's endings, as what they stand for.
 use Rattle.std.specs.Prelude.{ℕ, List}
 use Rattle.std.specs.String.{string_bytes}
-use Rattle.xc_top.specs.Requests as spec
-use Rattle.xc_top.specs.Requests.{LatticeOf, CheckOf, ShowOf, LatticeFile, ViewFile, MapFile}
+use Rattle.xc_words.specs.declared.fault.WordsFault.{WordsFault}
+use Rattle.xc_words.specs.declared.fault.WordsFault.TheVariants as words
 use Rattle.xc_top.specs.Texts.{words_line, write_line, memory_line}
-use Rattle.xc_top.specs.declared.request.Request.{Request}
-use Rattle.xc_top.specs.declared.request.Request.TheVariants.{Lattice, Check, Show}
-use Rattle.xc_top.specs.declared.request.ShowKind.{ShowKind}
-use Rattle.xc_top.specs.declared.request.ShowKind.TheVariants as kinds
 use Rattle.xc_top.specs.declared.halt.Halt.{Halt}
 use Rattle.xc_top.specs.declared.halt.Halt.TheVariants as halts
 use Rattle.xc_top.specs.declared.status.Status.{Status}
 use Rattle.xc_top.specs.declared.status.Status.TheVariants.{Words, Refused, ReadFault, WriteFault, Memory}
-
-abbrev pub kind_asked : ShowKind → spec.ShowKind
-kind_asked kinds.Lattice = LatticeFile
-kind_asked kinds.View = ViewFile
-kind_asked kinds.Map = MapFile
-
-abbrev pub asked : Request → spec.Request
-asked (Lattice file) = LatticeOf file.now
-asked (Check sigmap formulas) = CheckOf sigmap.now formulas.now
-asked (Show kind file) = ShowOf (kind_asked kind) file.now
 
 -- the status of a halt, and its line for err
 abbrev pub halt_status : Halt → Status
@@ -37,3 +23,8 @@ halt_line (halts.Refused line) = string_bytes line
 halt_line (halts.ReadFault line) = string_bytes line
 halt_line halts.WriteFault = write_line
 halt_line halts.Memory = memory_line
+
+-- the halt at words that are not read
+abbrev pub words_halt : WordsFault → Halt
+words_halt words.Words = halts.Words
+words_halt words.Memory = halts.Memory

@@ -1,11 +1,11 @@
 -- What a call of `run` does, in eight parts. Outcomes are spoken of where the shelf tells its files, and the bytes of out
 -- and err where these tell them.
 use Rattle.std.specs.Prelude.{◌≡◌, ◌≢◌, ℕ, Bool, true, false, ◌⊎◌, List, [], ◌∷◌, ◌++◌, Option, Some, None, IfSome, MatchOption}
-use Rattle.xc_base.specs.Shelves.{Told, Shelved, HasRisen, has_risen}
+use Rattle.xc_base.specs.Shelves.{Told, Shelved, HasRisen, has_risen, IsAbsentIfSteady}
 use Rattle.xc_base.specs.Sinks.{Sunk, AddsWhole, AddsPart, AddsFront, AddsNothing, IsCalm}
 use Rattle.xc_base.specs.declared.shelf.File.{File}
 use Rattle.xc_top.specs.Outcomes.{Course, ComesOfWords, Loading, Outcome, Absent, Refusal, Served, always, IsCourse, IsOutcome, IsReached}
-use Rattle.xc_top.specs.Requests.{request_of}
+use Rattle.xc_words.specs.Requests.{request_of}
 use Rattle.xc_top.specs.Texts.{words_line, read_line, write_line, memory_line}
 use Rattle.xc_top.specs.declared.status.Status.{Status}
 use Rattle.xc_top.specs.declared.status.Status.TheVariants.{Done, No, Words, Refused, ReadFault, WriteFault, Memory}
@@ -62,12 +62,13 @@ pub record AnswersService (words : List (List ℕ)) (shelf : Shelved) (old new :
   pub no : status ≡ No → Serves words shelf old new No
 
 -- One load failed, of a name that the course reaches where each load finds some files, and P holds of the name. Where files
--- are told it is reached over those, and is the one name that joined the failed ones.
+-- are told it is reached over those, and is the one name that joined the failed ones. A steady shelf does not hold it.
 pub record FailedOnce (tasks : Course) (shelf shelf_after : Shelved) (P : List ℕ → Type 0) : Type 0 where
   pub name : List ℕ
   pub moments : ℕ → List File
   pub reached : tasks moments (Loading name)
   pub told : P name
+  pub absent : IsAbsentIfSteady shelf.told name
   pub failed : IfSome shelf.told (λ told. tasks (always told.files) (Loading name) × (shelf_after.told ≡ Some (record told { failed = told.failed ++ name ∷ [] })))
 
 -- what a shelf tells stays, or one load failed as above

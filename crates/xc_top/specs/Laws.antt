@@ -2,7 +2,8 @@
 use Rattle.std.specs.Prelude.{◌≡◌, ℕ, List, Some}
 use Rattle.xc_base.specs.declared.shelf.File.{File}
 use Rattle.xc_top.specs.Outcomes.{Outcome, IsOutcome}
-use Rattle.xc_top.specs.Requests.{Request, request_of}
+use Rattle.xc_words.specs.Requests.{request_of}
+use Rattle.xc_words.specs.declared.asked.Request.{Request}
 
 -- words that are a request have an outcome over all files
 abbrev pub RequestsHaveOutcomes : Type 0

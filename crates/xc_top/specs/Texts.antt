@@ -5,6 +5,15 @@ use Rattle.std.specs.Fmt.{decimal}
 use Rattle.xc_theory.specs.Lattices.{bottom, top}
 use Rattle.xc_lattice.specs.LatticeFiles.{LatticeValue}
 use Rattle.xc_base.specs.Names.{name_at}
+use Rattle.xc_base.specs.declared.fault.TextFault.{TextFault}
+use Rattle.xc_base.specs.declared.fault.TextFault.TheVariants.{LongFile, BadByte, LongLine}
+use Rattle.xc_base.specs.declared.fault.TextFault.TheVariants as texts
+use Rattle.xc_base.specs.declared.fault.FileFault.{FileFault}
+use Rattle.xc_base.specs.declared.fault.FileFault.TheVariants.{NoStatement, Repeated, Unknown, Count, Missing}
+use Rattle.xc_base.specs.declared.fault.Counted.{Counted}
+use Rattle.xc_base.specs.declared.fault.Counted.TheVariants as counted
+use Rattle.xc_base.specs.declared.fault.Part.{Part}
+use Rattle.xc_base.specs.declared.fault.Part.TheVariants as parts
 use Rattle.xc_merge.specs.declared.fault.MergeFault.{MergeFault}
 use Rattle.xc_merge.specs.declared.fault.MergeFault.TheVariants.{UnknownValue, UnknownName, NotTotal, Elements, NoInitial, Initial}
 use Rattle.xc_merge.specs.declared.fault.MergeFault.TheVariants as faults
@@ -30,13 +39,10 @@ law_word Antitone = codes "antitone"
 abbrev pub broken_text : Law → List (List ℕ) → List ℕ
 broken_text law names = line (codes "broken " ++ law_word law ++ flat_map (λ name. 32 ∷ name) names)
 
--- The err lines: for words that are no request, for a file whose text or statements are at fault, for a file that was
--- not read, for a text that was not written, and for want of memory.
+-- The err lines: for words that are no request, for a file that was not read, for a text that was not written, and for want of
+-- memory.
 abbrev pub words_line : List ℕ
 words_line = line (codes "refused words")
-
-abbrev pub file_line : List ℕ → List ℕ
-file_line name = line (codes "refused file " ++ name)
 
 abbrev pub read_line : List ℕ → List ℕ
 read_line name = line (codes "fault read " ++ name)
@@ -46,6 +52,49 @@ write_line = line (codes "fault write")
 
 abbrev pub memory_line : List ℕ
 memory_line = line (codes "fault memory")
+
+-- for a text that is not cut into lines: the file, and the number of its first line that is at fault (want of memory is none)
+abbrev pub text_line : List ℕ → TextFault → List ℕ
+text_line file LongFile = line (codes "refused longfile " ++ file)
+text_line file (BadByte number) = line (codes "refused byte " ++ file ++ 32 ∷ decimal number)
+text_line file (LongLine number) = line (codes "refused longline " ++ file ++ 32 ∷ decimal number)
+text_line file texts.Memory = memory_line
+
+-- what a limit counts
+abbrev pub counted_word : Counted → List ℕ
+counted_word counted.Elements = codes "elements"
+counted_word counted.Values = codes "values"
+counted_word counted.States = codes "states"
+counted_word counted.Commands = codes "commands"
+counted_word counted.Props = codes "props"
+counted_word counted.Uses = codes "uses"
+counted_word counted.Formulas = codes "formulas"
+counted_word counted.Nodes = codes "nodes"
+counted_word counted.Text = codes "text"
+counted_word counted.Lines = codes "lines"
+
+-- what a file may lack
+abbrev pub part_text : Part → List ℕ
+part_text parts.Head = codes "head"
+part_text parts.Elements = codes "elements"
+part_text (parts.Not element) = codes "not " ++ element
+part_text parts.Lattice = codes "lattice"
+part_text parts.Var = codes "var"
+part_text parts.Init = codes "init"
+part_text parts.Uses = codes "use"
+part_text parts.Formula = codes "formula"
+part_text parts.Claim = codes "claim"
+part_text parts.Root = codes "root"
+part_text parts.Line = codes "line"
+
+-- For a file whose statements are at fault: the file, and the line of its first fault; behind that what passes a limit, and how
+-- many there are. Where no line is at fault, the part that the file lacks.
+abbrev pub fault_line : List ℕ → FileFault → List ℕ
+fault_line file (NoStatement number) = line (codes "refused grammar " ++ file ++ 32 ∷ decimal number)
+fault_line file (Repeated number) = line (codes "refused repeated " ++ file ++ 32 ∷ decimal number)
+fault_line file (Unknown number) = line (codes "refused unknown " ++ file ++ 32 ∷ decimal number)
+fault_line file (Count number what found) = line (codes "refused count " ++ file ++ 32 ∷ decimal number ++ 32 ∷ counted_word what ++ 32 ∷ decimal found)
+fault_line file (Missing part) = line (codes "refused missing " ++ file ++ 32 ∷ part_text part)
 
 -- for a lattice that breaks a law, where the request is not to judge it
 abbrev pub broken_line : List ℕ → Law → List (List ℕ) → List ℕ
@@ -84,3 +133,7 @@ merge_line faults.Memory = memory_line
 -- for too many states
 abbrev pub states_line : ℕ → List ℕ
 states_line count = line (codes "refused states " ++ decimal count)
+
+-- for a size of which no files are generated
+abbrev pub size_line : ℕ → List ℕ
+size_line size = line (codes "refused size " ++ decimal size)

@@ -4,6 +4,9 @@ use Rattle.xc_base.specs.Formats.{Row, Format, IsAccepted, IsFirstFault}
 use Rattle.xc_base.specs.Lines.{text_rows}
 use Rattle.xc_base.specs.Text.{text_fault}
 use Rattle.xc_base.specs.declared.fault.FileFault.{FileFault}
+use Rattle.xc_base.specs.declared.fault.TextFault.{TextFault}
+use Rattle.xc_base.specs.declared.fault.TextFault.TheVariants.{LongFile, BadByte, LongLine}
+use Rattle.xc_base.specs.declared.fault.TextFault.TheVariants as texts
 use Rattle.xc_lattice.specs.LatticeFiles.{LatticeValue, Verdict, Faulty, Unlawful, Lawful, IsVerdict}
 use Rattle.xc_view.specs.ViewFiles.{view_format}
 use Rattle.xc_merge.specs.Merges.{Merge, Viewpoint}
@@ -12,7 +15,7 @@ use Rattle.xc_merge.specs.declared.fault.MergeFault.{MergeFault}
 use Rattle.xc_merge.specs.declared.fault.MergeFault.TheVariants.{UnknownValue, UnknownName, NotTotal, Elements, NoInitial, Initial}
 use Rattle.xc_merge.specs.declared.fault.MergeFault.TheVariants as faults
 use Rattle.std.specs.String.{string_bytes}
-use Rattle.xc_base.specs.Shelves.{Told, Shelved, IsLoaded, HasRisen}
+use Rattle.xc_base.specs.Shelves.{Told, Shelved, IsLoaded, HasRisen, IsAbsentIfSteady}
 use Rattle.xc_base.specs.declared.shelf.File.{File}
 use Rattle.xc_top.specs.Outcomes.{Course, Event, Ends, Outcome, Refusal, Served, Reports, always, file_limit, IsCourse}
 use Rattle.xc_top.specs.Writing.{CanReport, passed_status}
@@ -20,8 +23,8 @@ use Rattle.xc_machine.specs.Machines.{merge_of}
 use Rattle.xc_machine.specs.declared.machine.Machine.{Machine}
 use Rattle.xc_ctl.specs.Formulas.{nodes_in}
 use Rattle.xc_ctl.specs.declared.formula.Formulas.{Formulas}
-use Rattle.xc_top.specs.Requests.{request_of}
-use Rattle.xc_top.specs.Texts.{read_line, file_line, broken_line, merge_line, value_line, name_line, total_line, product_line, no_initial_line, initial_line}
+use Rattle.xc_words.specs.Requests.{request_of}
+use Rattle.xc_top.specs.Texts.{read_line, text_line, fault_line, broken_line, merge_line, value_line, name_line, total_line, product_line, no_initial_line, initial_line}
 use Rattle.xc_top.specs.Headline.{FailedOnce, KeepsOrFails, ForOutcome, IsRefusal, IsServed, MayRefuse, Serves, MayLoad, AddsAtMost, MayWrite}
 use Rattle.xc_base.specs.Sinks.{Sunk, AddsPart, AddsNothing, AddsFront}
 use Rattle.xc_top.specs.declared.halt.Halt.{Halt}
@@ -29,7 +32,6 @@ use Rattle.xc_top.specs.declared.halt.Halt.TheVariants.{Words, Refused, ReadFaul
 use Rattle.xc_top.specs.declared.answer.Answer.{Answer}
 use Rattle.xc_top.specs.declared.answer.Answer.TheVariants.{Text, Report}
 use Rattle.xc_top.specs.declared.answer.Passed.{Passed}
-use Rattle.xc_top.specs.declared.status.Status.{Status}
 
 -- a report that can be written, and that is an outcome of which P holds
 pub record IsReport (P : Outcome → Type 0) (machine : Machine) (formulas : Formulas) : Type 0 where
@@ -60,15 +62,17 @@ Comes tasks result = ComesTo (λ outcome. (moments : ℕ → List File) → task
 abbrev pub AddsFailed : List ℕ → Shelved → Shelved → Type 0
 AddsFailed name shelf shelf_after = shelf_after.told ≡ option_map (λ (told : Told). record told { failed = told.failed ++ name ∷ [] }) shelf.told
 
--- A load failed of that name: its line for err names it, and where files are told so are the failed names.
+-- A load failed of that name, which a steady shelf does not hold: its line for err names it, and where files are told so are the
+-- failed names.
 pub record FailedAt (name : List ℕ) (shelf shelf_after : Shelved) (line : List ℕ) : Type 0 where
   pub named : line ≡ read_line name
   pub counted : HasRisen shelf.faults shelf_after.faults
+  pub absent : IsAbsentIfSteady shelf.told name
   pub told : AddsFailed name shelf shelf_after
 
 abbrev pub IsLoadHalt : List ℕ → Shelved → Shelved → Halt → Type 0
 IsLoadHalt name shelf shelf_after (ReadFault line) = FailedAt name shelf shelf_after (string_bytes line)
-IsLoadHalt name shelf shelf_after Memory = (shelf_after.told ≡ shelf.told) ⊎ AddsFailed name shelf shelf_after
+IsLoadHalt name shelf shelf_after Memory = (shelf_after.told ≡ shelf.told) ⊎ (AddsFailed name shelf shelf_after × IsAbsentIfSteady shelf.told name)
 IsLoadHalt name shelf shelf_after Words = ⊥
 IsLoadHalt name shelf shelf_after (Refused line) = ⊥
 IsLoadHalt name shelf shelf_after WriteFault = ⊥
@@ -138,7 +142,7 @@ pub record IsCut (bytes : List ℕ) (rows : List Row) : Type 0 where
 
 -- why a text is not cut
 abbrev pub IsCutHalt : List ℕ → List ℕ → Halt → Type 0
-IsCutHalt name bytes (Refused line) = IsSome (text_fault file_limit bytes) × (string_bytes line ≡ file_line name)
+IsCutHalt name bytes (Refused line) = MatchOption (text_fault file_limit bytes) ⊥ (λ fault. string_bytes line ≡ text_line name fault)
 IsCutHalt name bytes Memory = Unit {0}
 IsCutHalt name bytes Words = ⊥
 IsCutHalt name bytes (ReadFault line) = ⊥
@@ -175,11 +179,18 @@ pub record IsViewpoint (told : Option Told) (file : List ℕ) (p : Viewpoint) : 
 
 -- the line for a lattice file that is not used
 abbrev pub IsRefusedVerdict : List ℕ → Verdict → List ℕ → Type 0
-IsRefusedVerdict name (Faulty fault) line = line ≡ file_line name
+IsRefusedVerdict name (Faulty fault) line = line ≡ fault_line name fault
 IsRefusedVerdict name (Unlawful law names) line = line ≡ broken_line name law names
 IsRefusedVerdict name (Lawful l) line = ⊥
 
--- the line is that of a fault, which is not want of memory
+-- the line is that of a text's fault, which is not want of memory
+abbrev pub IsTextLine : List ℕ → TextFault → List ℕ → Type 0
+IsTextLine name LongFile line = line ≡ text_line name LongFile
+IsTextLine name (BadByte number) line = line ≡ text_line name (BadByte number)
+IsTextLine name (LongLine number) line = line ≡ text_line name (LongLine number)
+IsTextLine name texts.Memory line = ⊥
+
+-- the line is that of a fault of viewpoints, which is not want of memory
 abbrev pub IsMergeLine : MergeFault → List ℕ → Type 0
 IsMergeLine (UnknownValue viewpoint value) line = line ≡ value_line viewpoint value
 IsMergeLine (UnknownName viewpoint name) line = line ≡ name_line viewpoint name
@@ -199,7 +210,7 @@ pub record IsMergeRefusal (m : Merge) (line : List ℕ) : Type 0 where
 pub record IsFaultRefusal {S V : Type 0} (format : Format S V) (name : List ℕ) (rows : List Row) (line : List ℕ) : Type 0 where
   pub fault : FileFault
   pub first : IsFirstFault format rows fault
-  pub told : line ≡ file_line name
+  pub told : line ≡ fault_line name fault
 
 pub record IsLatticeRefusal (name : List ℕ) (rows : List Row) (line : List ℕ) : Type 0 where
   pub verdict : Verdict

@@ -15,8 +15,7 @@ ghost use Rattle.xc_ctl.specs.Formulas.{nodes_in};
 ghost use Rattle.xc_ctl.specs.Tables.{is_table_in};
 ghost use Rattle.xc_report.specs.Reports.{signature_of};
 ghost use Rattle.xc_top.specs.Headline.{TellsSame};
-ghost use Rattle.xc_top.specs.Outcomes.{Cuts, Ends, Evaluates, FormulaTasks, IsCourse, LoadsViewpoints, MergeTasks, Opens, files_of};
-ghost use Rattle.xc_top.specs.Requests.{CheckOf};
+ghost use Rattle.xc_top.specs.Outcomes.{CheckTasks, Cuts, Evaluates, FormulaTasks, LoadsViewpoints, MergeTasks, Opens, files_of};
 ghost use Rattle.xc_top.specs.Writing.{AreGiven};
 ghost use Rattle.xc_top.specs.Working.{Comes, ComesTo, IsFaultRefusal, IsMergeRefusal, IsPrepared, IsRefusalHalt, LeavesShelf};
 
@@ -25,7 +24,7 @@ use crate::files::{load_map, load_viewpoint};
 use crate::formulas::read_tables;
 use crate::halt::Halt;
 use crate::load::{cut, load};
-use crate::text;
+use crate::refusal::{refused_file, refused_merge, refused_states};
 use std::alloc::Global;
 use xc_base::{Lines, List, Shelf, Stop};
 use xc_ctl::Formulas;
@@ -50,7 +49,7 @@ fn read_formulas(
 {
     match read_tables(alloc, machine, lines) {
         Ok(formulas) => Ok(formulas),
-        Err(Stop::File(_)) => Err(Halt::Refused(text::refused_file(alloc, name)?)),
+        Err(Stop::File(fault)) => Err(Halt::Refused(refused_file(alloc, name, &fault)?)),
         Err(Stop::Memory) => Err(Halt::Memory),
     }
 }
@@ -59,12 +58,12 @@ fn read_formulas(
 #[tactic(auto, using(crate::proofs::Checking::reported, crate::proofs::Checking::too_many))]
 fn evaluate(alloc: Global, machine: Machine, formulas: Formulas) -> Result<Answer, Halt>
     requires { AreGiven (merge_of machine) (nodes_in formulas) }
-    ensures { ComesTo (λ outcome. Evaluates (merge_of machine) (nodes_in formulas) (Ends outcome)) result }
+    ensures { ComesTo (Evaluates (merge_of machine) (nodes_in formulas)) result }
 {
     machine.is_framed();
     let count = machine.states();
     if count > STATE_LIMIT {
-        return Err(Halt::Refused(text::refused_states(alloc, count)?));
+        return Err(Halt::Refused(refused_states(alloc, count)?));
     }
     Ok(Answer::Report { machine, formulas })
 }
@@ -102,7 +101,7 @@ fn machine_of(alloc: Global, sigmap: SigMap, views: List<(View, Lattice)>) -> Re
 {
     match Machine::of(alloc, sigmap, views) {
         Ok(machine) => Ok(machine),
-        Err(fault) => Err(Halt::Refused(text::refused_merge(alloc, &fault)?)),
+        Err(fault) => Err(Halt::Refused(refused_merge(alloc, &fault)?)),
     }
 }
 
@@ -153,7 +152,7 @@ pub(crate) fn check<S: Shelf>(
     formulas: &str,
 ) -> Result<Answer, Halt>
     ensures kept { LeavesShelf (S.seen shelf.old).told (S.seen shelf.new).told result }
-    ensures prepared { IsPrepared (IsCourse (CheckOf sigmap.now formulas.now)) (S.seen shelf.old) (S.seen shelf.new) result }
+    ensures prepared { IsPrepared (CheckTasks sigmap.now formulas.now) (S.seen shelf.old) (S.seen shelf.new) result }
     ensures files { TellsSame (S.seen shelf.old).told (S.seen shelf.new).told }
 {
     let plan = load_map(alloc, shelf, sigmap)?;

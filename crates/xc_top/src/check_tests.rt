@@ -1,16 +1,9 @@
 use super::check_files::*;
+use super::runs::{Ran, run_words};
 use super::*;
 use std::alloc::Global;
 use std::test::Fail;
-use xc_base::{MemoryShelf, MemorySink};
-
-/// What a call of `run` leaves.
-#[derive(Drop)]
-struct Ran {
-    status: Status,
-    out: MemorySink,
-    err: MemorySink,
-}
+use xc_base::MemoryShelf;
 
 /// A lattice whose elements e0 to e63 stand one above the other.
 fn long_chain(alloc: Global) -> Result<String, Fail> {
@@ -102,18 +95,10 @@ fn run_check<'a>(
     files: &[Parts<'a>],
     fails: Fails,
 ) -> Result<Ran, Fail> {
-    let mut words = Vec::new(alloc);
-    for word in ["check", sigmap, formulas] {
-        words.push(String::from_str(alloc, word)?)?;
-    }
     let mut shelf = shelf_of(alloc)?;
     add_all(alloc, &mut shelf, files)?;
     shelf.fail(fails.load)?;
-    let mut out = MemorySink::new(alloc, 16);
-    out.fail(fails.put)?;
-    let mut err = MemorySink::new(alloc, 1000);
-    let status = run(alloc, &words, &mut shelf, &mut out, &mut err);
-    Ok(Ran { status, out, err })
+    run_words(alloc, &["check", sigmap, formulas], &mut shelf, fails.put)
 }
 
 /// A file of one text.
@@ -199,7 +184,7 @@ fn refusals_in_their_order(rt: HostRuntime) -> Result<(), Fail> {
             "x.map",
             ["map x\nuse ann no.view\n"].as_slice(),
             Status::Refused,
-            "refused file x.map\n",
+            "refused missing x.map var\n",
         ),
         (
             "x.map",
@@ -221,7 +206,7 @@ fn refusals_in_their_order(rt: HostRuntime) -> Result<(), Fail> {
             "bob.view",
             ["view bob\n"].as_slice(),
             Status::Refused,
-            "refused file bob.view\n",
+            "refused missing bob.view lattice\n",
         ),
         // what does not merge, before the formulas
         (
@@ -272,7 +257,7 @@ fn refusals_in_their_order(rt: HostRuntime) -> Result<(), Fail> {
             "ax.ctl",
             ["EX q\n"].as_slice(),
             Status::Refused,
-            "refused file ax.ctl\n",
+            "refused unknown ax.ctl 1\n",
         ),
         (
             "wide.map",
@@ -299,17 +284,22 @@ fn refusals_in_their_order(rt: HostRuntime) -> Result<(), Fail> {
 
 #[test]
 fn loads_one_after_another(rt: HostRuntime) -> Result<(), Fail> {
-    for (load, err) in [
-        (1, "fault read pair.map\n"),
-        (2, "fault read alice.view\n"),
-        (3, "fault read two.lat\n"),
-        (4, "fault read bob.view\n"),
-        (5, "fault read chain.lat\n"),
-        (6, "fault read ax.ctl\n"),
+    for (sigmap, load, err) in [
+        ("pair.map", 1, "fault read pair.map\n"),
+        ("pair.map", 2, "fault read alice.view\n"),
+        ("pair.map", 3, "fault read two.lat\n"),
+        ("pair.map", 4, "fault read bob.view\n"),
+        ("pair.map", 5, "fault read chain.lat\n"),
+        ("pair.map", 6, "fault read ax.ctl\n"),
+        // a lattice that was loaded before is loaded again
+        ("still.map", 3, "fault read chain.lat\n"),
+        ("still.map", 5, "fault read chain.lat\n"),
+        ("still.map", 6, "fault read ax.ctl\n"),
+        ("no.map", 99, "fault read no.map\n"),
     ] {
         let ran = run_check(
             rt.alloc(),
-            "pair.map",
+            sigmap,
             "ax.ctl",
             [].as_slice(),
             Fails { load, put: 999 },

@@ -12,12 +12,12 @@ ghost use Rattle.xc_sigmap.specs.MapFiles.{map_format};
 ghost use Rattle.xc_sigmap.specs.Maps.{value_of as map_of};
 ghost use Rattle.xc_merge.specs.Merging.{viewpoint_of};
 ghost use Rattle.xc_top.specs.Headline.{TellsSame};
-ghost use Rattle.xc_top.specs.Outcomes.{Cuts, Opens, LoadsViewpoint, ReadsLattice, ReadsMap, ReadsView};
+ghost use Rattle.xc_top.specs.Outcomes.{Cuts, Opens, LoadsViewpoint, Reads, ReadsLattice};
 ghost use Rattle.xc_top.specs.Working.{nothing, CountsOn, IsFaultRefusal, IsFile, IsHalted, IsLatticeRefusal, IsLawfulFile, IsRead, IsRefusalHalt, IsViewpoint, LeavesShelf, Stops};
 
 use crate::halt::Halt;
 use crate::load::{cut, load};
-use crate::text;
+use crate::refusal::{refused_broken, refused_file};
 use std::alloc::Global;
 use xc_base::{Lines, Shelf, Stop};
 use xc_lattice::{LatFault, Lattice};
@@ -31,7 +31,7 @@ fn read_map(alloc: Global, name: &str, lines: &Lines) -> Result<SigMap, Halt>
 {
     match xc_sigmap::read(alloc, lines) {
         Ok(sigmap) => Ok(sigmap),
-        Err(Stop::File(_)) => Err(Halt::Refused(text::refused_file(alloc, name)?)),
+        Err(Stop::File(fault)) => Err(Halt::Refused(refused_file(alloc, name, &fault)?)),
         Err(Stop::Memory) => Err(Halt::Memory),
     }
 }
@@ -39,7 +39,7 @@ fn read_map(alloc: Global, name: &str, lines: &Lines) -> Result<SigMap, Halt>
 /// The map in a file of these bytes.
 fn map_in(alloc: Global, name: &str, bytes: &[u8]) -> Result<SigMap, Halt>
     ensures read { IfOk result (λ m. IsRead (IsAccepted map_format) bytes.now (map_of m)) }
-    ensures stopped { IfErr result (Stops (Cuts name.now (ReadsMap name.now nothing) bytes.now)) }
+    ensures stopped { IfErr result (Stops (Cuts name.now (Reads map_format name.now nothing) bytes.now)) }
 {
     let lines = cut(alloc, name, bytes)?;
     read_map(alloc, name, &lines)
@@ -48,7 +48,7 @@ fn map_in(alloc: Global, name: &str, bytes: &[u8]) -> Result<SigMap, Halt>
 /// The map in a file.
 pub(crate) fn load_map<S: Shelf>(alloc: Global, shelf: &mut S, name: &str) -> Result<SigMap, Halt>
     ensures read { IfOk result (λ m. IsFile (IsAccepted map_format) (S.seen shelf.old).told name.now (map_of m)) }
-    ensures stopped { IfErr result (IsHalted (Opens name.now (ReadsMap name.now nothing)) (S.seen shelf.old) (S.seen shelf.new)) }
+    ensures stopped { IfErr result (IsHalted (Opens name.now (Reads map_format name.now nothing)) (S.seen shelf.old) (S.seen shelf.new)) }
     ensures kept { LeavesShelf (S.seen shelf.old).told (S.seen shelf.new).told result }
     ensures counts { CountsOn (S.seen shelf.old) (S.seen shelf.new) }
     ensures files { TellsSame (S.seen shelf.old).told (S.seen shelf.new).told }
@@ -64,7 +64,7 @@ fn read_view(alloc: Global, name: &str, lines: &Lines) -> Result<View, Halt>
 {
     match xc_view::read(alloc, lines) {
         Ok(view) => Ok(view),
-        Err(Stop::File(_)) => Err(Halt::Refused(text::refused_file(alloc, name)?)),
+        Err(Stop::File(fault)) => Err(Halt::Refused(refused_file(alloc, name, &fault)?)),
         Err(Stop::Memory) => Err(Halt::Memory),
     }
 }
@@ -72,7 +72,7 @@ fn read_view(alloc: Global, name: &str, lines: &Lines) -> Result<View, Halt>
 /// The view in a file of these bytes.
 fn view_in(alloc: Global, name: &str, bytes: &[u8]) -> Result<View, Halt>
     ensures read { IfOk result (λ v. IsRead (IsAccepted view_format) bytes.now (view_of v)) }
-    ensures stopped { IfErr result (Stops (Cuts name.now (ReadsView name.now nothing) bytes.now)) }
+    ensures stopped { IfErr result (Stops (Cuts name.now (Reads view_format name.now nothing) bytes.now)) }
 {
     let lines = cut(alloc, name, bytes)?;
     read_view(alloc, name, &lines)
@@ -81,7 +81,7 @@ fn view_in(alloc: Global, name: &str, bytes: &[u8]) -> Result<View, Halt>
 /// The view in a file.
 pub(crate) fn load_view<S: Shelf>(alloc: Global, shelf: &mut S, name: &str) -> Result<View, Halt>
     ensures read { IfOk result (λ v. IsFile (IsAccepted view_format) (S.seen shelf.old).told name.now (view_of v)) }
-    ensures stopped { IfErr result (IsHalted (Opens name.now (ReadsView name.now nothing)) (S.seen shelf.old) (S.seen shelf.new)) }
+    ensures stopped { IfErr result (IsHalted (Opens name.now (Reads view_format name.now nothing)) (S.seen shelf.old) (S.seen shelf.new)) }
     ensures kept { LeavesShelf (S.seen shelf.old).told (S.seen shelf.new).told result }
     ensures counts { CountsOn (S.seen shelf.old) (S.seen shelf.new) }
     ensures files { TellsSame (S.seen shelf.old).told (S.seen shelf.new).told }
@@ -98,10 +98,10 @@ fn read_lattice(alloc: Global, name: &str, lines: &Lines) -> Result<Lattice, Hal
 {
     match xc_lattice::read(alloc, lines) {
         Ok(lattice) => Ok(lattice),
-        Err(LatFault::Broken { law, elements }) => Err(Halt::Refused(text::refused_broken(
+        Err(LatFault::Broken { law, elements }) => Err(Halt::Refused(refused_broken(
             alloc, name, law, &elements,
         )?)),
-        Err(LatFault::File(_)) => Err(Halt::Refused(text::refused_file(alloc, name)?)),
+        Err(LatFault::File(fault)) => Err(Halt::Refused(refused_file(alloc, name, &fault)?)),
         Err(LatFault::Memory) => Err(Halt::Memory),
     }
 }

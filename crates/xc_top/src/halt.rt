@@ -3,6 +3,7 @@ ghost use Rattle.std.specs.Prelude.{◌≡◌};
 use crate::status::Status;
 use std::alloc::AllocError;
 use xc_base::Memory as NoMemory;
+use xc_words::WordsFault;
 
 /// Why a request is not served, with its line for err where that is not always the same.
 #[derive(Debug, Drop)]
@@ -61,5 +62,18 @@ impl From<NoMemory> for Halt {
 
     fn from(_e: NoMemory) -> Halt {
         Halt::Memory
+    }
+}
+
+impl From<WordsFault> for Halt {
+    ghost use Rattle.xc_top.specs.Asked.{words_halt};
+
+    ghost from_gives = { λ fault e. e ≡ words_halt fault };
+
+    fn from(fault: WordsFault) -> Halt {
+        match fault {
+            WordsFault::Words => Halt::Words,
+            WordsFault::Memory => Halt::Memory,
+        }
     }
 }

@@ -6,12 +6,13 @@ mod check;
 mod deliver;
 mod files;
 mod formulas;
+mod generate;
 mod halt;
 mod load;
 mod outcome;
 mod prepare;
 mod program;
-mod request;
+mod refusal;
 mod show;
 mod status;
 mod text;
@@ -25,7 +26,13 @@ mod check_files;
 #[cfg(test)]
 mod check_tests;
 #[cfg(test)]
+mod fault_tests;
+#[cfg(test)]
+mod gen_tests;
+#[cfg(test)]
 mod product_tests;
+#[cfg(test)]
+mod runs;
 #[cfg(test)]
 mod show_tests;
 #[cfg(test)]

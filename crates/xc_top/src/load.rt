@@ -7,9 +7,9 @@ ghost use Rattle.xc_top.specs.Headline.{TellsSame};
 ghost use Rattle.xc_top.specs.Working.{IsCut, IsCutHalt, IsLoadHalt, LeavesShelf, CountsOn};
 
 use crate::halt::Halt;
-use crate::text;
+use crate::refusal::{fault_read, refused_text};
 use std::alloc::Global;
-use xc_base::{Lines, LoadFault, Shelf, TextFault, cut_lines};
+use xc_base::{Lines, LoadFault, Shelf, cut_lines};
 
 /// How many bytes a file may have.
 const FILE_LIMIT: usize = 1_048_576;
@@ -24,7 +24,7 @@ pub(crate) fn load<S: Shelf>(alloc: Global, shelf: &mut S, name: &str) -> Result
 {
     match shelf.load(alloc, name, FILE_LIMIT) {
         Ok(bytes) => Ok(bytes),
-        Err(LoadFault::Failed) => Err(Halt::ReadFault(text::fault_read(alloc, name)?)),
+        Err(LoadFault::Failed) => Err(Halt::ReadFault(fault_read(alloc, name)?)),
         Err(LoadFault::Memory) => Err(Halt::Memory),
     }
 }
@@ -36,7 +36,6 @@ pub(crate) fn cut<'a>(alloc: Global, name: &str, bytes: &'a [u8]) -> Result<Line
 {
     match cut_lines(alloc, bytes, FILE_LIMIT) {
         Ok(lines) => Ok(lines),
-        Err(TextFault::Memory) => Err(Halt::Memory),
-        Err(_) => Err(Halt::Refused(text::refused_file(alloc, name)?)),
+        Err(fault) => Err(Halt::Refused(refused_text(alloc, name, fault)?)),
     }
 }

@@ -4,21 +4,22 @@ ghost use Rattle.std.specs.Prelude.{◌≡◌};
 ghost use Rattle.xc_base.specs.Lines.{rows_in};
 ghost use Rattle.xc_top.specs.Headline.{TellsSame};
 ghost use Rattle.xc_lattice.specs.Values.{value_of};
-ghost use Rattle.xc_top.specs.Asked.{asked};
 ghost use Rattle.xc_top.specs.Outcomes.{Cuts, Ending, HasText, IsCourse, JudgesLattice};
-ghost use Rattle.xc_top.specs.Requests.{LatticeOf};
+ghost use Rattle.xc_words.specs.declared.asked.Request.TheVariants.{Lattice as LatticeOf};
 ghost use Rattle.xc_top.specs.Working.{Comes, ComesTo, IsPrepared, LeavesShelf};
 
 use crate::answer::{Answer, Passed};
 use crate::check::check;
+use crate::generate::generate;
 use crate::halt::Halt;
 use crate::load::{cut, load};
-use crate::request::Request;
+use crate::refusal::refused_file;
 use crate::show::show;
 use crate::text;
 use std::alloc::Global;
 use xc_base::{Bytes, Lines, Shelf};
 use xc_lattice::{LatFault, Lattice, read};
+use xc_words::Request;
 
 /// The text for a lattice.
 fn describe(alloc: Global, lattice: &Lattice) -> Result<Answer, Halt>
@@ -42,7 +43,7 @@ fn judge_lattice(alloc: Global, name: &str, lines: &Lines) -> Result<Answer, Hal
             passed: Passed::No,
             text: Bytes::of(alloc, text::broken_text(alloc, law, &elements)?.as_bytes())?,
         }),
-        Err(LatFault::File(_)) => Err(Halt::Refused(text::refused_file(alloc, name)?)),
+        Err(LatFault::File(fault)) => Err(Halt::Refused(refused_file(alloc, name, &fault)?)),
         Err(LatFault::Memory) => Err(Halt::Memory),
     }
 }
@@ -68,18 +69,22 @@ fn lattice<S: Shelf>(alloc: Global, shelf: &mut S, name: &str) -> Result<Answer,
 }
 
 /// Answers a request: loads its files, and works on them.
+#[tactic(auto, using(crate::proofs::Generating::generated_prepared))]
 pub(crate) fn prepare<S: Shelf>(
     alloc: Global,
-    request: &Request<'_>,
+    request: &Request,
     shelf: &mut S,
 ) -> Result<Answer, Halt>
     ensures kept { LeavesShelf (S.seen shelf.old).told (S.seen shelf.new).told result }
-    ensures prepared { IsPrepared (IsCourse (asked request.now)) (S.seen shelf.old) (S.seen shelf.new) result }
+    ensures prepared { IsPrepared (IsCourse request.now) (S.seen shelf.old) (S.seen shelf.new) result }
     ensures files { TellsSame (S.seen shelf.old).told (S.seen shelf.new).told }
 {
     match request {
-        Request::Lattice { file } => lattice(alloc, shelf, file),
-        Request::Check { sigmap, formulas } => check(alloc, shelf, sigmap, formulas),
-        Request::Show { kind, file } => show(alloc, shelf, *kind, file),
+        Request::Lattice { file } => lattice(alloc, shelf, file.as_str()),
+        Request::Check { map, formulas, .. } => {
+            check(alloc, shelf, map.as_str(), formulas.as_str())
+        }
+        Request::Show { kind, file } => show(alloc, shelf, *kind, file.as_str()),
+        Request::Gen { number, size } => generate(alloc, *number, *size),
     }
 }

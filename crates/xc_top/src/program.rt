@@ -7,26 +7,24 @@ use crate::answer::Passed;
 use crate::deliver::deliver;
 use crate::halt::Halt;
 use crate::prepare::prepare;
-use crate::request::requested;
 use crate::status::Status;
 use std::alloc::Global;
 use xc_base::{Shelf, Sink, put_all};
+use xc_words::request;
 
 /// Reads what the words ask for, works on it, and writes the text.
 #[tactic(auto, using(crate::proofs::Serving::halted, crate::proofs::Serving::is_ready, crate::proofs::Serving::delivered))]
 fn serve<S: Shelf, W: Sink>(
     alloc: Global,
-    words: &[String],
+    words: &Vec<String>,
     shelf: &mut S,
     out: &mut W,
 ) -> Result<Passed, Halt>
     ensures kept { LeavesShelf (S.seen shelf.old).told (S.seen shelf.new).told result }
-    ensures worked { IsWorked (map string_bytes words.now) (S.seen shelf.old) (S.seen shelf.new) (W.seen out.old) (W.seen out.new) result }
+    ensures worked { IsWorked (map string_bytes words.now.items) (S.seen shelf.old) (S.seen shelf.new) (W.seen out.old) (W.seen out.new) result }
     ensures files { TellsSame (S.seen shelf.old).told (S.seen shelf.new).told }
 {
-    let Some(request) = requested(words) else {
-        return Err(Halt::Words);
-    };
+    let request = request(alloc, words)?;
     let answer = prepare(alloc, &request, shelf)?;
     deliver(alloc, out, &answer)
 }
@@ -65,7 +63,7 @@ pub fn run<S: Shelf, W: Sink, E: Sink>(
     // Err gets the line of the status, and the files stay, and the failed names too but for that of one load.
     ensures rest { KeepsTheRest (map string_bytes words.now.items) (S.seen shelf.old) (S.seen shelf.new) (E.seen err.old) (E.seen err.new) result }
 {
-    match serve(alloc, words.as_slice(), shelf, out) {
+    match serve(alloc, words, shelf, out) {
         Ok(Passed::Done) => Status::Done,
         Ok(Passed::No) => Status::No,
         Err(halt) => {

@@ -4,10 +4,10 @@ ghost use Rattle.xc_lattice.specs.Printed.{lattice_lines};
 ghost use Rattle.xc_lattice.specs.Values.{value_of as lattice_of};
 ghost use Rattle.xc_sigmap.specs.Maps.{value_of as map_of};
 ghost use Rattle.xc_sigmap.specs.Printing.{map_lines};
-ghost use Rattle.xc_top.specs.Asked.{kind_asked};
 ghost use Rattle.xc_top.specs.Headline.{TellsSame};
 ghost use Rattle.xc_top.specs.Outcomes.{IsCourse, Shows};
-ghost use Rattle.xc_top.specs.Requests.{ShowOf, LatticeFile, ViewFile, MapFile};
+ghost use Rattle.xc_words.specs.declared.asked.Request.TheVariants.{Show};
+ghost use Rattle.xc_words.specs.declared.asked.ShowKind.TheVariants as kinds;
 ghost use Rattle.xc_top.specs.Working.{Comes, IsPrepared, LeavesShelf};
 ghost use Rattle.xc_view.specs.Printing.{view_lines};
 ghost use Rattle.xc_view.specs.Views.{value_of as view_of};
@@ -15,12 +15,12 @@ ghost use Rattle.xc_view.specs.Views.{value_of as view_of};
 use crate::answer::{Answer, Passed};
 use crate::files::{load_lattice, load_map, load_view};
 use crate::halt::Halt;
-use crate::request::ShowKind;
 use std::alloc::Global;
 use xc_base::Shelf;
 use xc_lattice::Lattice;
 use xc_sigmap::SigMap;
 use xc_view::View;
+use xc_words::ShowKind;
 
 /// The canonical text of a lattice.
 #[tactic(auto, using(crate::proofs::Showing::text_shown))]
@@ -58,7 +58,7 @@ fn print_map(alloc: Global, sigmap: &SigMap) -> Result<Answer, Halt>
 /// Shows the lattice in a file.
 fn show_lattice<S: Shelf>(alloc: Global, shelf: &mut S, name: &str) -> Result<Answer, Halt>
     ensures kept { LeavesShelf (S.seen shelf.old).told (S.seen shelf.new).told result }
-    ensures prepared { IsPrepared (IsCourse (ShowOf LatticeFile name.now)) (S.seen shelf.old) (S.seen shelf.new) result }
+    ensures prepared { IsPrepared (IsCourse (Show kinds.Lattice name.now)) (S.seen shelf.old) (S.seen shelf.new) result }
     ensures files { TellsSame (S.seen shelf.old).told (S.seen shelf.new).told }
 {
     let lattice = load_lattice(alloc, shelf, name)?;
@@ -68,7 +68,7 @@ fn show_lattice<S: Shelf>(alloc: Global, shelf: &mut S, name: &str) -> Result<An
 /// Shows the view in a file. Neither its values nor its lattice are looked up.
 fn show_view<S: Shelf>(alloc: Global, shelf: &mut S, name: &str) -> Result<Answer, Halt>
     ensures kept { LeavesShelf (S.seen shelf.old).told (S.seen shelf.new).told result }
-    ensures prepared { IsPrepared (IsCourse (ShowOf ViewFile name.now)) (S.seen shelf.old) (S.seen shelf.new) result }
+    ensures prepared { IsPrepared (IsCourse (Show kinds.View name.now)) (S.seen shelf.old) (S.seen shelf.new) result }
     ensures files { TellsSame (S.seen shelf.old).told (S.seen shelf.new).told }
 {
     let view = load_view(alloc, shelf, name)?;
@@ -78,7 +78,7 @@ fn show_view<S: Shelf>(alloc: Global, shelf: &mut S, name: &str) -> Result<Answe
 /// Shows the map in a file. Its viewpoints are not looked up.
 fn show_map<S: Shelf>(alloc: Global, shelf: &mut S, name: &str) -> Result<Answer, Halt>
     ensures kept { LeavesShelf (S.seen shelf.old).told (S.seen shelf.new).told result }
-    ensures prepared { IsPrepared (IsCourse (ShowOf MapFile name.now)) (S.seen shelf.old) (S.seen shelf.new) result }
+    ensures prepared { IsPrepared (IsCourse (Show kinds.Map name.now)) (S.seen shelf.old) (S.seen shelf.new) result }
     ensures files { TellsSame (S.seen shelf.old).told (S.seen shelf.new).told }
 {
     let sigmap = load_map(alloc, shelf, name)?;
@@ -93,7 +93,7 @@ pub(crate) fn show<S: Shelf>(
     name: &str,
 ) -> Result<Answer, Halt>
     ensures kept { LeavesShelf (S.seen shelf.old).told (S.seen shelf.new).told result }
-    ensures prepared { IsPrepared (IsCourse (ShowOf (kind_asked kind) name.now)) (S.seen shelf.old) (S.seen shelf.new) result }
+    ensures prepared { IsPrepared (IsCourse (Show kind name.now)) (S.seen shelf.old) (S.seen shelf.new) result }
     ensures files { TellsSame (S.seen shelf.old).told (S.seen shelf.new).told }
 {
     match kind {

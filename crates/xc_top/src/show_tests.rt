@@ -1,30 +1,15 @@
 use super::check_files::*;
+use super::runs::{Ran, run_words};
 use super::*;
 use std::alloc::Global;
 use std::test::Fail;
-use xc_base::{MemoryShelf, MemorySink};
-
-/// What a call of `run` leaves.
-#[derive(Drop)]
-struct Ran {
-    status: Status,
-    out: MemorySink,
-    err: MemorySink,
-}
+use xc_base::MemoryShelf;
 
 /// Runs words over one file in memory, with out's call of that number failing.
 fn run_over(alloc: Global, words: &[&str], name: &str, text: &str, put: u64) -> Result<Ran, Fail> {
-    let mut all = Vec::new(alloc);
-    for word in words {
-        all.push(String::from_str(alloc, word)?)?;
-    }
     let mut shelf = MemoryShelf::new(alloc);
     shelf.add(name, text.as_bytes())?;
-    let mut out = MemorySink::new(alloc, 16);
-    out.fail(put)?;
-    let mut err = MemorySink::new(alloc, 1000);
-    let status = run(alloc, &all, &mut shelf, &mut out, &mut err);
-    Ok(Ran { status, out, err })
+    run_words(alloc, words, &mut shelf, put)
 }
 
 const CHAIN_SHOWN: &str =
@@ -125,7 +110,7 @@ fn files_are_not_shown(rt: HostRuntime) -> Result<(), Fail> {
             99,
             Status::Refused,
             "",
-            "refused file bob.view\n",
+            "refused grammar bob.view 1\n",
         ),
         (
             ["show", "view", "pair.map"].as_slice(),
@@ -134,7 +119,7 @@ fn files_are_not_shown(rt: HostRuntime) -> Result<(), Fail> {
             99,
             Status::Refused,
             "",
-            "refused file pair.map\n",
+            "refused grammar pair.map 1\n",
         ),
         (
             ["show", "lattice", "bob.view"].as_slice(),
@@ -143,7 +128,7 @@ fn files_are_not_shown(rt: HostRuntime) -> Result<(), Fail> {
             99,
             Status::Refused,
             "",
-            "refused file bob.view\n",
+            "refused grammar bob.view 1\n",
         ),
         // a text that is not cut, and a file that lacks its last line
         (
@@ -153,7 +138,7 @@ fn files_are_not_shown(rt: HostRuntime) -> Result<(), Fail> {
             99,
             Status::Refused,
             "",
-            "refused file x\n",
+            "refused byte x 1\n",
         ),
         (
             ["show", "view", "x"].as_slice(),
@@ -162,7 +147,7 @@ fn files_are_not_shown(rt: HostRuntime) -> Result<(), Fail> {
             99,
             Status::Refused,
             "",
-            "refused file x\n",
+            "refused missing x init\n",
         ),
         (
             ["show", "view", "no.view"].as_slice(),

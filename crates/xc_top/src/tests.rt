@@ -1,31 +1,16 @@
 use super::check_files::{CHAIN, DIAMOND, M3, TWO};
+use super::runs::{Ran, run_words};
 use super::*;
 use std::alloc::Global;
 use std::test::Fail;
-use xc_base::{MemoryShelf, MemorySink};
-
-/// What a call of `run` leaves.
-#[derive(Drop)]
-struct Ran {
-    status: Status,
-    out: MemorySink,
-    err: MemorySink,
-}
+use xc_base::MemoryShelf;
 
 /// Runs words over one file in memory, `x.lat`, with the shelf's and out's calls of these numbers failing.
 fn run_over(alloc: Global, words: &[&str], text: &str, load: u64, put: u64) -> Result<Ran, Fail> {
-    let mut all = Vec::new(alloc);
-    for word in words {
-        all.push(String::from_str(alloc, word)?)?;
-    }
     let mut shelf = MemoryShelf::new(alloc);
     shelf.add("x.lat", text.as_bytes())?;
     shelf.fail(load)?;
-    let mut out = MemorySink::new(alloc, 16);
-    out.fail(put)?;
-    let mut err = MemorySink::new(alloc, 1000);
-    let status = run(alloc, &all, &mut shelf, &mut out, &mut err);
-    Ok(Ran { status, out, err })
+    run_words(alloc, words, &mut shelf, put)
 }
 
 #[test]
@@ -87,19 +72,6 @@ fn lattice_files(rt: HostRuntime) -> Result<(), Fail> {
             "lattice two elements 2 height 1 bottom F top T\n",
             "",
         ),
-        ("", Status::Refused, "", "refused file x.lat\n"),
-        (
-            "lattice two\nelements F T\nbelow F T\nnot F T\n",
-            Status::Refused,
-            "",
-            "refused file x.lat\n",
-        ),
-        (
-            "lattice t\u{e9}\n",
-            Status::Refused,
-            "",
-            "refused file x.lat\n",
-        ),
     ] {
         let ran = run_over(rt.alloc(), &["lattice", "x.lat"], text, 99, 99)?;
         assert_eq!(rt; ran.status, status, "{text}");
@@ -155,6 +127,46 @@ fn words_and_faults(rt: HostRuntime) -> Result<(), Fail> {
         ),
         (
             ["lattices", "x.lat"].as_slice(),
+            99,
+            99,
+            Status::Words,
+            "",
+            "refused words\n",
+        ),
+        (
+            ["check", "x.lat"].as_slice(),
+            99,
+            99,
+            Status::Words,
+            "",
+            "refused words\n",
+        ),
+        (
+            ["check", "x.map", "x.ctl", "--plain"].as_slice(),
+            99,
+            99,
+            Status::Words,
+            "",
+            "refused words\n",
+        ),
+        (
+            ["check", "x.map", "x.ctl", "--plain", "--size"].as_slice(),
+            99,
+            99,
+            Status::Words,
+            "",
+            "refused words\n",
+        ),
+        (
+            ["verify", "x.map", "x.ctl", "x.wit"].as_slice(),
+            99,
+            99,
+            Status::Words,
+            "",
+            "refused words\n",
+        ),
+        (
+            ["gen", "07", "4"].as_slice(),
             99,
             99,
             Status::Words,

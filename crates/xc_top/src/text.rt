@@ -1,17 +1,15 @@
-//! The texts that go to out and err.
+//! The texts that go to out.
 
 ghost use Rattle.std.specs.Prelude.{◌≡◌, ◌<◌, ◌∷◌, ◌++◌, length, IfOk, OnOk};
 ghost use Rattle.std.specs.List.{flat_map};
 ghost use Rattle.std.specs.String.{string_bytes};
 ghost use Rattle.xc_base.specs.Names.{name_at};
 ghost use Rattle.xc_lattice.specs.Values.{value_of};
-ghost use Rattle.xc_top.specs.Texts.{lattice_text, broken_text, law_word, line, file_line, broken_line, states_line, read_line};
-ghost use Rattle.xc_top.specs.Working.{IsMergeLine};
+ghost use Rattle.xc_top.specs.Texts.{lattice_text, broken_text, law_word};
 
 use std::alloc::{AllocError, Global};
-use xc_base::{List, Memory as NoMemory, Word};
+use xc_base::{List, Word};
 use xc_lattice::{Lattice, Law};
-use xc_merge::MergeFault;
 
 /// The name of an element.
 fn name_of(lattice: &Lattice, element: u8) -> &str
@@ -52,7 +50,7 @@ pub(crate) fn lattice_line(
 }
 
 /// The word of a law.
-fn word_of(law: Law) -> &'static str
+pub(crate) fn word_of(law: Law) -> &'static str
     ensures { result.now ≡ law_word law }
 {
     match law {
@@ -66,7 +64,7 @@ fn word_of(law: Law) -> &'static str
 }
 
 /// Appends names, with a blank before each.
-fn push_names(text: &mut String, names: &List<Word>) -> Result<(), AllocError>
+pub(crate) fn push_names(text: &mut String, names: &List<Word>) -> Result<(), AllocError>
     ensures { OnOk result (string_bytes text.new ≡ string_bytes text.old ++ flat_map (λ name. 32 ∷ name) names.now) }
 {
     for name in names.as_slice() {
@@ -89,80 +87,4 @@ pub(crate) fn broken_text(
     push_names(&mut text, elements)?;
     text.push_str("\n")?;
     Ok(text)
-}
-
-/// The line for a file whose text or statements are at fault.
-pub(crate) fn refused_file(alloc: Global, name: &str) -> Result<String, AllocError>
-    ensures { IfOk result (λ t. string_bytes t ≡ file_line name.now) }
-{
-    format!(in alloc; "refused file {name}\n")
-}
-
-/// The line for a lattice that breaks a law, where the request is not to judge it.
-pub(crate) fn refused_broken(
-    alloc: Global,
-    name: &str,
-    law: Law,
-    elements: &List<Word>,
-) -> Result<String, AllocError>
-    ensures { IfOk result (λ t. string_bytes t ≡ broken_line name.now law elements.now) }
-{
-    let mut text = String::new(alloc);
-    push_both(&mut text, "refused broken ", name)?;
-    push_both(&mut text, " ", word_of(law))?;
-    push_names(&mut text, elements)?;
-    text.push_str("\n")?;
-    Ok(text)
-}
-
-/// The line for what a viewpoint has wrong, behind a word for how.
-fn refused_viewpoint(
-    alloc: Global,
-    label: &str,
-    viewpoint: &Word,
-    word: &Word,
-) -> Result<String, AllocError>
-    ensures { IfOk result (λ t. string_bytes t ≡ line (label.now ++ viewpoint.now ++ 32 ∷ word.now)) }
-{
-    let mut text = String::new(alloc);
-    push_both(&mut text, label, viewpoint.as_str())?;
-    push_both(&mut text, " ", word.as_str())?;
-    text.push_str("\n")?;
-    Ok(text)
-}
-
-/// The line for viewpoints that do not merge.
-pub(crate) fn refused_merge(alloc: Global, fault: &MergeFault) -> Result<String, NoMemory>
-    ensures { IfOk result (λ t. IsMergeLine fault.now (string_bytes t)) }
-{
-    let line = match fault {
-        MergeFault::UnknownValue { viewpoint, value } => {
-            refused_viewpoint(alloc, "refused value ", viewpoint, value)?
-        }
-        MergeFault::UnknownName { viewpoint, name } => {
-            refused_viewpoint(alloc, "refused name ", viewpoint, name)?
-        }
-        MergeFault::NotTotal { viewpoint, name } => {
-            refused_viewpoint(alloc, "refused total ", viewpoint, name)?
-        }
-        MergeFault::Elements { count } => format!(in alloc; "refused product {count}\n")?,
-        MergeFault::NoInitial => String::from_str(alloc, "refused noinitial\n")?,
-        MergeFault::Initial { count } => format!(in alloc; "refused initial {count}\n")?,
-        MergeFault::Memory => return Err(NoMemory),
-    };
-    Ok(line)
-}
-
-/// The line for too many states.
-pub(crate) fn refused_states(alloc: Global, count: u32) -> Result<String, AllocError>
-    ensures { IfOk result (λ t. string_bytes t ≡ states_line count) }
-{
-    format!(in alloc; "refused states {count}\n")
-}
-
-/// The line for a file that was not read.
-pub(crate) fn fault_read(alloc: Global, name: &str) -> Result<String, AllocError>
-    ensures { IfOk result (λ t. string_bytes t ≡ read_line name.now) }
-{
-    format!(in alloc; "fault read {name}\n")
 }
