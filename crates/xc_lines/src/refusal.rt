@@ -4,8 +4,8 @@ ghost use Rattle.std.specs.Prelude.{◌≡◌, ◌∷◌, ◌++◌, IfOk, OnOk};
 ghost use Rattle.std.specs.Fmt.{decimal};
 ghost use Rattle.std.specs.String.{string_bytes};
 ghost use Rattle.xc_base.specs.declared.fault.FileFault.TheVariants.{Count, Missing};
-ghost use Rattle.xc_top.specs.Texts.{line, fault_line, counted_word, part_text, broken_line, states_line, size_line, read_line};
-ghost use Rattle.xc_top.specs.Working.{IsMergeLine, IsTextLine};
+ghost use Rattle.xc_lines.specs.Texts.{line, fault_line, counted_word, part_text, broken_line, states_line, size_line, read_line};
+ghost use Rattle.xc_lines.specs.Refusals.{IsMergeLine, IsTextLine};
 
 use crate::text::{push_both, push_names, word_of};
 use std::alloc::{AllocError, Global};
@@ -33,7 +33,7 @@ fn line_at(alloc: Global, label: &str, name: &str, number: u32) -> Result<String
 }
 
 /// The line for a text that is not cut into lines.
-pub(crate) fn refused_text(alloc: Global, name: &str, fault: TextFault) -> Result<String, NoMemory>
+pub fn refused_text(alloc: Global, name: &str, fault: TextFault) -> Result<String, NoMemory>
     ensures { IfOk result (λ t. IsTextLine name.now fault (string_bytes t)) }
 {
     let line = match fault {
@@ -116,7 +116,7 @@ fn refused_count(
 }
 
 /// The line for a file whose statements are at fault.
-pub(crate) fn refused_file(
+pub fn refused_file(
     alloc: Global,
     name: &str,
     fault: &FileFault,
@@ -133,7 +133,7 @@ pub(crate) fn refused_file(
 }
 
 /// The line for a lattice that breaks a law, where the request is not to judge it.
-pub(crate) fn refused_broken(
+pub fn refused_broken(
     alloc: Global,
     name: &str,
     law: Law,
@@ -150,7 +150,7 @@ pub(crate) fn refused_broken(
 }
 
 /// The line for viewpoints that do not merge.
-pub(crate) fn refused_merge(alloc: Global, fault: &MergeFault) -> Result<String, NoMemory>
+pub fn refused_merge(alloc: Global, fault: &MergeFault) -> Result<String, NoMemory>
     ensures { IfOk result (λ t. IsMergeLine fault.now (string_bytes t)) }
 {
     let line = match fault {
@@ -172,21 +172,21 @@ pub(crate) fn refused_merge(alloc: Global, fault: &MergeFault) -> Result<String,
 }
 
 /// The line for too many states.
-pub(crate) fn refused_states(alloc: Global, count: u32) -> Result<String, AllocError>
+pub fn refused_states(alloc: Global, count: u32) -> Result<String, AllocError>
     ensures { IfOk result (λ t. string_bytes t ≡ states_line count) }
 {
     format!(in alloc; "refused states {count}\n")
 }
 
 /// The line for a size of which no files are generated.
-pub(crate) fn refused_size(alloc: Global, size: u32) -> Result<String, AllocError>
+pub fn refused_size(alloc: Global, size: u32) -> Result<String, AllocError>
     ensures { IfOk result (λ t. string_bytes t ≡ size_line size) }
 {
     format!(in alloc; "refused size {size}\n")
 }
 
 /// The line for a file that was not read.
-pub(crate) fn fault_read(alloc: Global, name: &str) -> Result<String, AllocError>
+pub fn fault_read(alloc: Global, name: &str) -> Result<String, AllocError>
     ensures { IfOk result (λ t. string_bytes t ≡ read_line name.now) }
 {
     format!(in alloc; "fault read {name}\n")

@@ -3,11 +3,13 @@ use Rattle.std.specs.Prelude.{ℕ, List}
 use Rattle.std.specs.String.{string_bytes}
 use Rattle.xc_words.specs.declared.fault.WordsFault.{WordsFault}
 use Rattle.xc_words.specs.declared.fault.WordsFault.TheVariants as words
-use Rattle.xc_top.specs.Texts.{words_line, write_line, memory_line}
-use Rattle.xc_top.specs.declared.halt.Halt.{Halt}
-use Rattle.xc_top.specs.declared.halt.Halt.TheVariants as halts
-use Rattle.xc_top.specs.declared.status.Status.{Status}
-use Rattle.xc_top.specs.declared.status.Status.TheVariants.{Words, Refused, ReadFault, WriteFault, Memory}
+use Rattle.xc_lines.specs.Texts.{words_line, write_line, memory_line}
+use Rattle.xc_lines.specs.declared.halt.Halt.{Halt}
+use Rattle.xc_lines.specs.declared.halt.Halt.TheVariants as halts
+use Rattle.xc_lines.specs.declared.status.Status.{Status}
+use Rattle.xc_lines.specs.declared.passed.Passed.{Passed}
+use Rattle.xc_lines.specs.declared.passed.Passed.TheVariants as passed
+use Rattle.xc_lines.specs.declared.status.Status.TheVariants.{Done, No, Words, Refused, ReadFault, WriteFault, Memory}
 
 -- the status of a halt, and its line for err
 abbrev pub halt_status : Halt → Status
@@ -28,3 +30,8 @@ halt_line halts.Memory = memory_line
 abbrev pub words_halt : WordsFault → Halt
 words_halt words.Words = halts.Words
 words_halt words.Memory = halts.Memory
+
+-- the status of a request that is served
+abbrev pub passed_status : Passed → Status
+passed_status passed.Done = Done
+passed_status passed.No = No

@@ -5,7 +5,7 @@ ghost use Rattle.std.specs.List.{flat_map};
 ghost use Rattle.std.specs.String.{string_bytes};
 ghost use Rattle.xc_base.specs.Names.{name_at};
 ghost use Rattle.xc_lattice.specs.Values.{value_of};
-ghost use Rattle.xc_top.specs.Texts.{lattice_text, broken_text, law_word};
+ghost use Rattle.xc_lines.specs.Texts.{lattice_text, broken_text, law_word};
 
 use std::alloc::{AllocError, Global};
 use xc_base::{List, Word};
@@ -20,7 +20,7 @@ fn name_of(lattice: &Lattice, element: u8) -> &str
 }
 
 /// Appends a label and a value to a text.
-pub(crate) fn push_both(text: &mut String, label: &str, value: &str) -> Result<(), AllocError>
+pub fn push_both(text: &mut String, label: &str, value: &str) -> Result<(), AllocError>
     ensures { OnOk result (string_bytes text.new ≡ string_bytes text.old ++ label.now ++ value.now) }
 {
     text.push_str(label)?;
@@ -29,7 +29,7 @@ pub(crate) fn push_both(text: &mut String, label: &str, value: &str) -> Result<(
 }
 
 /// The text for a lattice of that height.
-pub(crate) fn lattice_line(
+pub fn lattice_line(
     alloc: Global,
     lattice: &Lattice,
     height: u32,
@@ -50,7 +50,7 @@ pub(crate) fn lattice_line(
 }
 
 /// The word of a law.
-pub(crate) fn word_of(law: Law) -> &'static str
+pub fn word_of(law: Law) -> &'static str
     ensures { result.now ≡ law_word law }
 {
     match law {
@@ -64,7 +64,7 @@ pub(crate) fn word_of(law: Law) -> &'static str
 }
 
 /// Appends names, with a blank before each.
-pub(crate) fn push_names(text: &mut String, names: &List<Word>) -> Result<(), AllocError>
+pub fn push_names(text: &mut String, names: &List<Word>) -> Result<(), AllocError>
     ensures { OnOk result (string_bytes text.new ≡ string_bytes text.old ++ flat_map (λ name. 32 ∷ name) names.now) }
 {
     for name in names.as_slice() {
@@ -75,7 +75,7 @@ pub(crate) fn push_names(text: &mut String, names: &List<Word>) -> Result<(), Al
 }
 
 /// The text for a file that breaks a law.
-pub(crate) fn broken_text(
+pub fn broken_text(
     alloc: Global,
     law: Law,
     elements: &List<Word>,

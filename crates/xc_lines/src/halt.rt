@@ -7,7 +7,7 @@ use xc_words::WordsFault;
 
 /// Why a request is not served, with its line for err where that is not always the same.
 #[derive(Debug, Drop)]
-pub(crate) enum Halt {
+pub enum Halt {
     Words,
     Refused(String),
     ReadFault(String),
@@ -16,10 +16,10 @@ pub(crate) enum Halt {
 }
 
 impl Halt {
-    ghost use Rattle.xc_top.specs.Asked.{halt_status, halt_line};
+    ghost use Rattle.xc_lines.specs.Halts.{halt_status, halt_line};
 
     /// The status that it ends with.
-    pub(crate) fn status(&self) -> Status
+    pub fn status(&self) -> Status
         ensures { result ≡ halt_status self.now }
     {
         match self {
@@ -32,7 +32,7 @@ impl Halt {
     }
 
     /// Its line for err.
-    pub(crate) fn line(&self) -> &str
+    pub fn line(&self) -> &str
         ensures { result.now ≡ halt_line self.now }
     {
         match self {
@@ -46,7 +46,7 @@ impl Halt {
 }
 
 impl From<AllocError> for Halt {
-    ghost use Rattle.xc_top.specs.declared.halt.Halt.TheVariants.{Memory};
+    ghost use Rattle.xc_lines.specs.declared.halt.Halt.TheVariants.{Memory};
 
     ghost from_gives = { λ _ e. e ≡ Memory };
 
@@ -56,7 +56,7 @@ impl From<AllocError> for Halt {
 }
 
 impl From<NoMemory> for Halt {
-    ghost use Rattle.xc_top.specs.declared.halt.Halt.TheVariants.{Memory};
+    ghost use Rattle.xc_lines.specs.declared.halt.Halt.TheVariants.{Memory};
 
     ghost from_gives = { λ _ e. e ≡ Memory };
 
@@ -66,7 +66,7 @@ impl From<NoMemory> for Halt {
 }
 
 impl From<WordsFault> for Halt {
-    ghost use Rattle.xc_top.specs.Asked.{words_halt};
+    ghost use Rattle.xc_lines.specs.Halts.{words_halt};
 
     ghost from_gives = { λ fault e. e ≡ words_halt fault };
 

@@ -1,0 +1,71 @@
+-- Files that were loaded, cut and read, and what stops this.
+use Rattle.std.specs.Prelude.{◌≡◌, ◌≤◌, ◌⊎◌, ℕ, List, [], ◌∷◌, ◌++◌, Option, None, option_map, MatchOption}
+use Rattle.std.specs.String.{string_bytes}
+use Rattle.xc_base.specs.Formats.{Row, Format, IsFirstFault}
+use Rattle.xc_base.specs.Lines.{text_rows}
+use Rattle.xc_base.specs.Shelves.{Told, Shelved, HasRisen, IsAbsentIfSteady}
+use Rattle.xc_base.specs.Text.{text_fault}
+use Rattle.xc_base.specs.declared.fault.FileFault.{FileFault}
+use Rattle.xc_lattice.specs.LatticeFiles.{Verdict, Unlawful, Lawful}
+use Rattle.xc_lattice.specs.Values.{value_of as lattice_of}
+use Rattle.xc_lines.specs.Texts.{read_line, text_line, fault_line}
+use Rattle.xc_lines.specs.declared.halt.Halt.{Halt}
+use Rattle.xc_lines.specs.declared.halt.Halt.TheVariants.{Words, Refused, ReadFault, WriteFault, Memory}
+use Rattle.xc_stages.specs.declared.lattices.Judged.{Judged}
+use Rattle.xc_stages.specs.declared.lattices.Judged.TheVariants as judged
+
+-- where files are told, the failed names grew by that one
+abbrev pub AddsFailed : List ℕ → Shelved → Shelved → Type 0
+AddsFailed name shelf shelf_after = shelf_after.told ≡ option_map (λ (told : Told). record told { failed = told.failed ++ name ∷ [] }) shelf.told
+
+-- A load failed of that name, which a steady shelf does not hold: its line for err names it, and where files are told so are the
+-- failed names.
+pub record FailedAt (name : List ℕ) (shelf shelf_after : Shelved) (line : List ℕ) : Type 0 where
+  pub named : line ≡ read_line name
+  pub counted : HasRisen shelf.faults shelf_after.faults
+  pub absent : IsAbsentIfSteady shelf.told name
+  pub told : AddsFailed name shelf shelf_after
+
+-- why a file is not loaded
+abbrev pub IsLoadHalt : List ℕ → Shelved → Shelved → Halt → Type 0
+IsLoadHalt name shelf shelf_after (ReadFault line) = FailedAt name shelf shelf_after (string_bytes line)
+IsLoadHalt name shelf shelf_after Memory = (shelf_after.told ≡ shelf.told) ⊎ (AddsFailed name shelf shelf_after × IsAbsentIfSteady shelf.told name)
+IsLoadHalt name shelf shelf_after Words = ⊥
+IsLoadHalt name shelf shelf_after (Refused line) = ⊥
+IsLoadHalt name shelf shelf_after WriteFault = ⊥
+
+-- the count of faults does not fall
+abbrev pub CountsOn : Shelved → Shelved → Type 0
+CountsOn before now = before.faults ≤ now.faults
+
+-- a text that is cut to those rows
+pub record IsCut (limit : ℕ) (bytes : List ℕ) (rows : List Row) : Type 0 where
+  pub sound : text_fault limit bytes ≡ None
+  pub same : rows ≡ text_rows bytes
+
+-- why a text is not cut
+abbrev pub IsCutHalt : ℕ → List ℕ → List ℕ → Halt → Type 0
+IsCutHalt limit name bytes (Refused line) = MatchOption (text_fault limit bytes) ⊥ (λ fault. string_bytes line ≡ text_line name fault)
+IsCutHalt limit name bytes Memory = Unit {0}
+IsCutHalt limit name bytes Words = ⊥
+IsCutHalt limit name bytes (ReadFault line) = ⊥
+IsCutHalt limit name bytes WriteFault = ⊥
+
+-- a step of the work that loads nothing stops: with a refusal, of whose line P holds, or since memory ran out
+abbrev pub IsRefusalHalt : (List ℕ → Type 0) → Halt → Type 0
+IsRefusalHalt P (Refused line) = P (string_bytes line)
+IsRefusalHalt P Memory = Unit {0}
+IsRefusalHalt P Words = ⊥
+IsRefusalHalt P (ReadFault line) = ⊥
+IsRefusalHalt P WriteFault = ⊥
+
+-- the rows have a first fault, and the line is that of the file
+pub record IsFaultRefusal {S V : Type 0} (format : Format S V) (name : List ℕ) (rows : List Row) (line : List ℕ) : Type 0 where
+  pub fault : FileFault
+  pub first : IsFirstFault format rows fault
+  pub told : line ≡ fault_line name fault
+
+-- the verdict that the code's is of
+abbrev pub verdict_of : Judged → Verdict
+verdict_of (judged.Broken law elements) = Unlawful law elements
+verdict_of (judged.Lawful lattice) = Lawful (lattice_of lattice)

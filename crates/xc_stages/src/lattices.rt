@@ -1,0 +1,48 @@
+//! Lattice files.
+
+ghost use Rattle.std.specs.Prelude.{IfOk, IfErr};
+ghost use Rattle.xc_lattice.specs.Values.{value_of as lattice_of};
+ghost use Rattle.xc_course.specs.FileKinds.{Lattices};
+ghost use Rattle.xc_course.specs.Trees.{Open, OpenLattice};
+ghost use Rattle.xc_course.specs.Works.{GoesOn, Stops};
+ghost use Rattle.xc_stages.specs.Loaded.{verdict_of};
+
+use crate::load::{FILE_LIMIT, cut, load};
+use std::alloc::Global;
+use xc_base::{Lines, List, Shelf, Word};
+use xc_lattice::{LatFault, Lattice, Law};
+use xc_lines::{Halt, refused_broken, refused_file};
+
+/// The verdict on a lattice file that has no fault.
+#[derive(Drop)]
+pub enum Judged {
+    /// It breaks a law, first by these elements.
+    Broken {
+        law: Law,
+        elements: List<Word>,
+    },
+    /// It breaks none.
+    Lawful(Lattice),
+}
+
+/// Opens a lattice file, and judges it by the six laws.
+pub fn judge_lattice<S: Shelf>(alloc: Global, shelf: &mut S, name: &str) -> Result<Judged, Halt>
+    ensures goes_on { IfOk result (λ j. GoesOn (Open Lattices name.now) (S.seen shelf.old) (S.seen shelf.new) (verdict_of j)) }
+    ensures stops { IfErr result (Stops (Open Lattices name.now) (S.seen shelf.old) (S.seen shelf.new)) }
+{
+    let bytes = load(alloc, shelf, name, FILE_LIMIT)?;
+    lattice_in(alloc, name, &bytes)
+}
+
+/// Opens a lattice that breaks no law.
+pub fn open_lattice<S: Shelf>(alloc: Global, shelf: &mut S, name: &str) -> Result<Lattice, Halt>
+    ensures goes_on { IfOk result (λ l. GoesOn (OpenLattice name.now) (S.seen shelf.old) (S.seen shelf.new) (lattice_of l)) }
+    ensures stops { IfErr result (Stops (OpenLattice name.now) (S.seen shelf.old) (S.seen shelf.new)) }
+{
+    match judge_lattice(alloc, shelf, name)? {
+        Judged::Lawful(lattice) => Ok(lattice),
+        Judged::Broken { law, elements } => {
+            Err(Halt::Refused(refused_broken(alloc, name, law, &elements)?))
+        }
+    }
+}
