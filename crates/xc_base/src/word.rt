@@ -2,6 +2,7 @@ ghost use Rattle.std.specs.Prelude.{◌≡◌, true, IfOk};
 ghost use Rattle.std.specs.List.{list_all, list_any};
 ghost use Rattle.xc_base.specs.Words.{is_word, is_name, is_word_byte, is_path_byte};
 
+use crate::list::List;
 use crate::memory::Memory;
 use std::alloc::Global;
 use std::marker::Model;
@@ -92,4 +93,15 @@ impl Word {
     {
         is_name_text(self.text.as_bytes())
     }
+}
+
+/// Equal words with memory of their own.
+pub fn copy_words(alloc: Global, words: &[Word]) -> Result<List<Word>, Memory>
+    ensures { IfOk result (λ copies. copies ≡ words.now) }
+{
+    let mut copies = List::new(alloc);
+    for word in words {
+        copies.push(word.copy(alloc)?)?;
+    }
+    Ok(copies)
 }

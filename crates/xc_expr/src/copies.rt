@@ -7,7 +7,7 @@ use crate::assign::Action;
 use crate::domain::{Domain, Vars};
 use crate::guard::Guard;
 use std::alloc::Global;
-use xc_base::{List, Memory, Word};
+use xc_base::{List, Memory, copy_words};
 
 /// An equal guard.
 pub fn copy_guard(alloc: Global, guard: &Guard) -> Result<Guard, Memory>
@@ -54,16 +54,6 @@ pub fn copy_action(alloc: Global, action: &Action) -> Result<Action, Memory>
     ensures { IfOk result (λ copy. copy ≡ action.now) }
 {
     List::of(alloc, action.as_slice())
-}
-
-fn copy_words(alloc: Global, words: &[Word]) -> Result<List<Word>, Memory>
-    ensures { IfOk result (λ copies. copies ≡ words.now) }
-{
-    let mut copies = List::new(alloc);
-    for word in words {
-        copies.push(word.copy(alloc)?)?;
-    }
-    Ok(copies)
 }
 
 /// An equal variable.

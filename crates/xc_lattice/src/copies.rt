@@ -5,18 +5,7 @@ ghost use Rattle.std.specs.Prelude.{◌≡◌, IfOk};
 use crate::lattice::Lattice;
 use std::alloc::Global;
 use xc_alg::AnyTable;
-use xc_base::{List, Memory, Word};
-
-/// Equal names with memory of their own.
-pub(crate) fn copy_names(alloc: Global, names: &[Word]) -> Result<List<Word>, Memory>
-    ensures { IfOk result (λ copies. copies ≡ names.now) }
-{
-    let mut copies = List::new(alloc);
-    for name in names {
-        copies.push(name.copy(alloc)?)?;
-    }
-    Ok(copies)
-}
+use xc_base::{List, Memory, copy_words};
 
 impl Lattice {
     ghost use Rattle.xc_alg.specs.AnyTables.{lattice_in_any, room_of};
@@ -29,7 +18,7 @@ impl Lattice {
         ensures { IfOk result (λ l. value_of l ≡ value_of self.now) }
     {
         let name = self.name().copy(alloc)?;
-        let names = copy_names(alloc, self.names().as_slice())?;
+        let names = copy_words(alloc, self.names().as_slice())?;
         let order = self.order().copy(alloc)?;
         let negations = List::of(alloc, self.negations().as_slice())?;
         Ok(Lattice::of(name, names, order, negations))

@@ -7,11 +7,10 @@ ghost use Rattle.xc_lattice.specs.Values.{said};
 ghost use Rattle.xc_lattice.specs.Drafts.{IsDraft, file_name, pairs_of, negated_by, negation_place, negations_of};
 ghost use Rattle.xc_base.specs.Names.{place_of};
 
-use crate::copies::copy_names;
 use crate::judge::{element_names, is_negated, is_same};
 use crate::statement::Statement;
 use std::alloc::Global;
-use xc_base::{List, Memory, Part, Word};
+use xc_base::{List, Memory, Part, Word, copy_words};
 use xc_order::{Order, Pair};
 
 /// What the statements of a file say, with no law looked at.
@@ -174,7 +173,7 @@ pub(crate) fn gather(alloc: Global, statements: &[Statement]) -> Result<Draft, M
     let order = Order::of(alloc, names.len() as u8, &pairs)?;
     let negations = negations_of(alloc, names, statements)?;
     let name = name.copy(alloc)?;
-    let names = copy_names(alloc, names)?;
+    let names = copy_words(alloc, names)?;
     Ok(Draft {
         name,
         names,

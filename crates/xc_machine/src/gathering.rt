@@ -12,7 +12,7 @@ use crate::tables::Tables;
 use crate::tabulate::tabulate;
 use std::alloc::Global;
 use xc_alg::AnyTable;
-use xc_base::{List, Memory, Word};
+use xc_base::{List, Memory, Word, copy_words};
 use xc_lattice::Lattice;
 use xc_merge::MergeFault;
 use xc_product::{Product, ProductFault};
@@ -44,17 +44,6 @@ fn operations_of(alloc: Global, tables: &[Tables]) -> Result<List<AnyTable>, Mem
     let mut list = List::new(alloc);
     for table in tables {
         list.push(table.operations.copy(alloc)?)?;
-    }
-    Ok(list)
-}
-
-/// Equal words.
-fn copy_words(alloc: Global, words: &[Word]) -> Result<List<Word>, Memory>
-    ensures { IfOk result (λ list. list ≡ words.now) }
-{
-    let mut list = List::new(alloc);
-    for word in words {
-        list.push(word.copy(alloc)?)?;
     }
     Ok(list)
 }

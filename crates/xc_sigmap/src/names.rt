@@ -5,7 +5,7 @@ use crate::parts::Use;
 use crate::statement::Statement;
 use std::alloc::Global;
 use xc_base::{List, Memory, Word};
-use xc_expr::{Domain, Vars};
+use xc_expr::{Vars, copy_domain};
 
 /// What statements declare, and others name.
 #[derive(Debug, Drop)]
@@ -13,16 +13,6 @@ pub(crate) struct Names {
     pub(crate) uses: List<Use>,
     pub(crate) vars: Vars,
     pub(crate) props: List<Word>,
-}
-
-fn copy_words(alloc: Global, words: &List<Word>) -> Result<List<Word>, Memory>
-    ensures { IfOk result (λ copies. copies ≡ words.now) }
-{
-    let mut copies = List::new(alloc);
-    for word in words.as_slice() {
-        copies.push(word.copy(alloc)?)?;
-    }
-    Ok(copies)
 }
 
 fn push_use(alloc: Global, uses: &mut List<Use>, s: &Statement) -> Result<(), Memory>
@@ -40,9 +30,7 @@ fn push_var(alloc: Global, vars: &mut Vars, s: &Statement) -> Result<(), Memory>
     ensures { OnOk result (vars.new ≡ vars.old ++ vars_of (s.now ∷ [])) }
 {
     if let Statement::Var(domain) = s {
-        let name = domain.name.copy(alloc)?;
-        let values = copy_words(alloc, &domain.values)?;
-        vars.push(Domain { name, values })?;
+        vars.push(copy_domain(alloc, domain)?)?;
     }
     Ok(())
 }

@@ -1,5 +1,5 @@
 use Rattle.std.proofs.Common.{◌≡◌, take}
-use Rattle.xc_expr.proofs.copies.copy_words.Given as goal
+use Rattle.xc_base.proofs.word.copy_words.Given as goal
 
 abbrev pub invariant-loop-word : goal.invariant-loop-word
 invariant-loop-word l = l.copies ≡ take l.word-index l.words
