@@ -3,5 +3,4 @@ pub mod Sizes
 pub mod Digits
 pub mod HeightSums
 pub mod SomeHeights
-pub mod Literals
 pub mod Facts

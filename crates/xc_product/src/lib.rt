@@ -12,6 +12,3 @@ mod weights;
 pub use fault::ProductFault;
 pub use laws::lawful_parts_have_heights;
 pub use product::Product;
-
-#[cfg(test)]
-mod tests;
