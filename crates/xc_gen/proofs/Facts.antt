@@ -1,9 +1,11 @@
 -- The files of small sizes, written out by hand: a wrong definition does not check here.
-use Rattle.std.proofs.Common.{◌≡◌, [], ◌∷◌, ◌++◌, true, false, map, codes, refl}
+use Rattle.std.proofs.Common.{◌≡◌, [], ◌∷◌, ◌++◌, true, false, map, codes, refl, sym, arith}
 use Rattle.std.specs.Fmt.{digits}
+use Rattle.std.proofs.lemmas.Bool.{false≢true}
 use Rattle.xc_base.specs.declared.shelf.File.{File}
 use Rattle.xc_gen.specs.declared.side.Side.TheVariants.{Left, Right}
-use Rattle.xc_gen.specs.Generated.{chain_text, diamond_text, weight, has_value, view_text, map_text, formulas_text, files_of, is_size}
+use Rattle.xc_gen.specs.declared.fault.GenFault.TheVariants.{Size, Memory}
+use Rattle.xc_gen.specs.Generated.{chain_text, diamond_text, weight, has_value, view_text, map_text, formulas_text, files_of, is_size, IsFaultOf}
 use Rattle.xc_gen.specs.Naming.{file_names}
 
 -- the lattices
@@ -91,3 +93,10 @@ names = refl
 
 pub sizes : map is_size (0 ∷ 1 ∷ 20 ∷ 21 ∷ []) ≡ false ∷ true ∷ true ∷ false ∷ []
 sizes = refl
+
+-- no size for which there are files is refused, and another one with no other number, nor for want of memory
+pub within : ¬ IsFaultOf 4 (Size 4) × ¬ IsFaultOf 1 (Size 1) × ¬ IsFaultOf 20 (Size 20) × IsFaultOf 4 Memory
+within = ((λ h. false≢true (sym h.1)), (λ h. false≢true (sym h.1)), (λ h. false≢true (sym h.1)), refl)
+
+pub outside : IsFaultOf 21 (Size 21) × ¬ IsFaultOf 21 (Size 20) × ¬ IsFaultOf 21 Memory × IsFaultOf 0 (Size 0) × ¬ IsFaultOf 0 Memory
+outside = ((refl, refl), (λ h. omega (arith, h.0)), (λ h. false≢true h), (refl, refl), (λ h. false≢true h))

@@ -1,9 +1,10 @@
 //! The merged machine.
 
-ghost use Rattle.std.specs.Prelude.{◌≡◌, ◌≤◌, ◌<◌, ℕ, length};
+ghost use Rattle.std.specs.Prelude.{◌≡◌, ◌≤◌, ◌<◌, ℕ, length, None};
 ghost use Rattle.xc_theory.specs.Codes.{total};
 ghost use Rattle.xc_alg.specs.Products.{product as algebra_of, sizes};
 ghost use Rattle.xc_product.specs.Products.{parts_of as factors_of};
+ghost use Rattle.xc_merge.specs.Faults.{merge_fault};
 ghost use Rattle.xc_merge.specs.Merges.{parts_of, names_of_parts};
 ghost use Rattle.xc_merge.specs.MergedFrames.{initials_of, merged_frame};
 ghost use Rattle.xc_machine.specs.Gathered.{merged_of};
@@ -32,19 +33,20 @@ pub struct Machine {
     ghost begins: { initials ≡ initials_of (merged_of merged) },
     ghost some: { 1 ≤ length initials },
     ghost few: { length initials ≤ 4096 },
+    ghost faultless: { merge_fault (merged_of merged) ≡ None },
     // Both follow from the tables. They are kept since an `impl` shows a trait's laws by what the value keeps.
     ghost steps: { (s t : ℕ) → s < (merged_frame (merged_of merged)).states → t < (merged_frame (merged_of merged)).states → (merged_frame (merged_of merged)).relation s t < (algebra_of (merged_frame (merged_of merged)).parts).size },
     ghost values: { (p s : ℕ) → p < (merged_frame (merged_of merged)).props → s < (merged_frame (merged_of merged)).states → (merged_frame (merged_of merged)).prop p s < (algebra_of (merged_frame (merged_of merged)).parts).size },
 }
 
 impl Machine {
-    ghost use Rattle.std.specs.Prelude.{None, IfOk, IfErr, []};
+    ghost use Rattle.std.specs.Prelude.{IfOk, IfErr, []};
     ghost use Rattle.xc_alg.specs.Products.{product};
     ghost use Rattle.xc_expr.specs.Variables.{sizes_of};
     ghost use Rattle.xc_lattice.specs.Values.{value_of as lattice_of};
     ghost use Rattle.xc_view.specs.Views.{value_of as view_of};
     ghost use Rattle.xc_sigmap.specs.Maps.{value_of as map_of};
-    ghost use Rattle.xc_merge.specs.Faults.{IsRefusal, all_faults, merge_fault};
+    ghost use Rattle.xc_merge.specs.Faults.{IsRefusal, all_faults};
     ghost use Rattle.xc_merge.specs.Merges.{viewpoint_at};
     ghost use Rattle.xc_merge.specs.MergedFrames.{is_merged_initial};
     ghost use Rattle.xc_merge.specs.Merging.{merge_in};
@@ -91,6 +93,12 @@ impl Machine {
             initials: found.states,
         })
     }
+
+    /// Its viewpoints merge without a fault, and there is one for each that its map uses.
+    pub fn is_sound(&self)
+        ensures faultless { merge_fault (merge_of self.now) ≡ None }
+        ensures one_each { length (merge_of self.now).viewpoints ≡ length (merge_of self.now).plan.uses }
+    {}
 
     /// How many states it has.
     pub fn states(&self) -> u32

@@ -3,7 +3,7 @@ use Rattle.std.proofs.Common.{◌≡◌, ◌≢◌, ℕ, zero, suc, ◌+◌, ◌
 use Rattle.std.specs.List.{list_all, list_any, AllByRecursion, IsDistinct}
 use Rattle.std.proofs.lemmas.Bool.{and_parts, and_from, or_cases, cases_eq, false≢true, not-true, eqb-true, eqb-false, ne_eqb, eq-eqb}
 use Rattle.std.proofs.lemmas.Map.Steps.{length-le_from_distinct_below}
-use Rattle.xc_theory.specs.Orders.{is_below, elements, IsAntisymmetric}
+use Rattle.xc_theory.specs.Orders.{is_below, elements, IsAntisymmetric, IsSquare}
 use Rattle.xc_theory.specs.Chains.{IsChain, IsHeight}
 use Rattle.xc_theory.proofs.Ranges.{all_range_at, all_range_from}
 use Rattle.xc_order.specs.Order.{IsOrder}
@@ -150,7 +150,17 @@ all_weaker : (P Q : ℕ → Type 0) → ((z : ℕ) → P z → Q z) → (xs : Li
 all_weaker P Q h [] all = tt
 all_weaker P Q h (x ∷ xs) all = (h x all.0, all_weaker P Q h xs all.1)
 
-chain_above : (n : ℕ) (table : List (List Bool)) → IsOrder n table → (xs : List ℕ) (x : ℕ) → IsChain table (x ∷ xs) → AllByRecursion (IsAbove table x) (x ∷ xs)
+-- an order of any number of elements, one at least
+pub record IsOrdered (n : ℕ) (table : List (List Bool)) : Type 0 where
+  pub positive : 0 < n
+  pub square : IsSquare n table
+  pub reflexive : (a : ℕ) → a < n → is_below table a a ≡ true
+  pub transitive : (a b c : ℕ) → a < n → b < n → c < n → is_below table a b ≡ true → is_below table b c ≡ true → is_below table a c ≡ true
+
+ordered : (n : ℕ) (table : List (List Bool)) → IsOrder n table → IsOrdered n table
+ordered n table order = record { positive = order.positive; square = order.square; reflexive = order.reflexive; transitive = order.transitive }
+
+chain_above : (n : ℕ) (table : List (List Bool)) → IsOrdered n table → (xs : List ℕ) (x : ℕ) → IsChain table (x ∷ xs) → AllByRecursion (IsAbove table x) (x ∷ xs)
 chain_above n table order [] x h = ((h, order.reflexive x (omega (arith, order.square.rows))), tt)
 chain_above n table order (y ∷ rest) x h =
     let size : length table ≡ n = order.square.rows in
@@ -160,7 +170,7 @@ chain_above n table order (y ∷ rest) x h =
     ((h.0, order.reflexive x (omega (arith, h.0))), all_weaker (IsAbove table y) (IsAbove table x) further (y ∷ rest) (chain_above n table order rest y h.3))
 
 -- no element is twice in a chain of an antisymmetric order
-chain_distinct : (n : ℕ) (table : List (List Bool)) → IsOrder n table → IsAntisymmetric table → (xs : List ℕ) → IsChain table xs → IsDistinct eqb xs
+chain_distinct : (n : ℕ) (table : List (List Bool)) → IsOrdered n table → IsAntisymmetric table → (xs : List ℕ) → IsChain table xs → IsDistinct eqb xs
 unfolding IsDistinct
 chain_distinct n table order anti [] h = tt
 chain_distinct n table order anti (x ∷ []) h = (tt, tt)
@@ -170,26 +180,28 @@ chain_distinct n table order anti (x ∷ y ∷ rest) h =
     ne_eqb x z (λ same. h.2 (anti x y h.0 y_in h.1 (subst (λ (v : ℕ). is_below table y v ≡ true) (sym same) above.1))) in
     (all_weaker (IsAbove table y) (λ z. eqb x z ≡ false) apart (y ∷ rest) (chain_above n table order rest y h.3), chain_distinct n table order anti (y ∷ rest) h.3)
 
+ordered_chain_fits : (n : ℕ) (table : List (List Bool)) → IsOrdered n table → IsAntisymmetric table → (xs : List ℕ) → IsChain table xs → length xs ≤ length table
+ordered_chain_fits n table order anti xs h = length-le_from_distinct_below xs (length table) (chain_distinct n table order anti xs h) (chain_in_range table xs h)
+
 pub chain_fits : (n : ℕ) (table : List (List Bool)) → IsOrder n table → IsAntisymmetric table → (xs : List ℕ) → IsChain table xs → length xs ≤ length table
-chain_fits n table order anti xs h = length-le_from_distinct_below xs (length table) (chain_distinct n table order anti xs h) (chain_in_range table xs h)
+chain_fits n table order anti xs h = ordered_chain_fits n table (ordered n table order) anti xs h
 
 highest : (level : ℕ → ℕ) (m : ℕ) → 0 < m → (a : ℕ) × (a < m) × (greatest_level level m ≡ level a)
 highest level zero h = absurd (omega arith)
 highest level (suc m) h = greatest_level_is level m
 
-longest : (n k : ℕ) (table : List (List Bool)) → IsOrder n table → IsAntisymmetric table → n ≤ k → (height : ℕ) → height ≡ greatest_level (steps_up table k) (length table) → (xs : List ℕ) → IsChain table xs → length xs ≤ height + 1
+longest : (n k : ℕ) (table : List (List Bool)) → IsOrdered n table → IsAntisymmetric table → n ≤ k → (height : ℕ) → height ≡ greatest_level (steps_up table k) (length table) → (xs : List ℕ) → IsChain table xs → length xs ≤ height + 1
 longest n k table order anti enough height e [] h = omega arith
 longest n k table order anti enough height e (a ∷ xs) h =
-    let fits = chain_fits n table order anti (a ∷ xs) h in
+    let fits = ordered_chain_fits n table order anti (a ∷ xs) h in
     let up = chain_le table xs k a h (omega (arith, order.square.rows)) in
     let most = greatest_level_at (steps_up table k) (length table) a (chain_head table a xs h) in
     omega arith
 
 -- after as many rounds as there are elements the greatest level is the height
-pub IsHeight-from_levels : (n k : ℕ) (table : List (List Bool)) (levels : List ℕ) (height : ℕ) → IsOrder n table → IsAntisymmetric table → n ≤ k → ((a : ℕ) → a < length table → get_or levels a 0 ≡ steps_up table k a) → height ≡ greatest_level (slice_index levels) (length table) → IsHeight table height
-IsHeight-from_levels n k table levels height order anti enough each is =
+height_from : (n k : ℕ) (table : List (List Bool)) (height : ℕ) → IsOrdered n table → IsAntisymmetric table → n ≤ k → height ≡ greatest_level (steps_up table k) (length table) → IsHeight table height
+height_from n k table height order anti enough same =
     let size : length table ≡ n = order.square.rows in
-    let same : height ≡ greatest_level (steps_up table k) (length table) = is ∙ greatest_level-agree (slice_index levels) (steps_up table k) (length table) each in
     let best = highest (steps_up table k) (length table) (omega (arith, order.positive)) in
     let found = chain_up table k best.0 best.1 in
     record {
@@ -198,6 +210,14 @@ IsHeight-from_levels n k table levels height order anti enough each is =
       reached = omega (arith, found.2, best.2);
       greatest = longest n k table order anti enough height same;
     }
+
+pub IsHeight-from_levels : (n k : ℕ) (table : List (List Bool)) (levels : List ℕ) (height : ℕ) → IsOrder n table → IsAntisymmetric table → n ≤ k → ((a : ℕ) → a < length table → get_or levels a 0 ≡ steps_up table k a) → height ≡ greatest_level (slice_index levels) (length table) → IsHeight table height
+IsHeight-from_levels n k table levels height order anti enough each is =
+    height_from n k table height (ordered n table order) anti enough (is ∙ greatest_level-agree (slice_index levels) (steps_up table k) (length table) each)
+
+-- an antisymmetric order has a height
+pub height_of : (n : ℕ) (table : List (List Bool)) → IsOrdered n table → IsAntisymmetric table → (h : ℕ) × IsHeight table h
+height_of n table order anti = (greatest_level (steps_up table n) (length table), height_from n n table (greatest_level (steps_up table n) (length table)) order anti (omega arith) refl)
 
 -- before the first round
 pub levels_none : (size a : ℕ) → slice_index (replicate size 0) a ≡ 0

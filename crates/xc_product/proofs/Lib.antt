@@ -2,5 +2,6 @@ pub mod Turns
 pub mod Sizes
 pub mod Digits
 pub mod HeightSums
+pub mod SomeHeights
 pub mod Literals
 pub mod Facts

@@ -3,3 +3,4 @@ pub mod Heights
 pub mod Products
 pub mod Faults
 pub mod Lawful
+pub mod Laws

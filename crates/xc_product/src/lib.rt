@@ -5,10 +5,12 @@ mod algebra;
 mod bounds;
 mod fault;
 mod heights;
+mod laws;
 mod product;
 mod weights;
 
 pub use fault::ProductFault;
+pub use laws::lawful_parts_have_heights;
 pub use product::Product;
 
 #[cfg(test)]

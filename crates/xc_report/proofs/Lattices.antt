@@ -1,23 +1,19 @@
 -- The lattices of files: their laws, their heights and their sizes.
-use Rattle.std.proofs.Common.{◌≡◌, ℕ, zero, suc, ◌<◌, ◌≤◌, Bool, false, List, [], ◌∷◌, ◌++◌, length, map, slice_index, refl, ap, arith}
-use Rattle.std.specs.List.{range_with_len, slice_index_or}
-use Rattle.std.proofs.lemmas.List.FromFn.{get_or-map-range_with_len}
-use Rattle.xc_theory.specs.Orders.{IsAntisymmetric}
+use Rattle.std.proofs.Common.{◌≡◌, ℕ, zero, suc, ◌<◌, ◌≤◌, false, List, [], ◌∷◌, ◌++◌, length, map, refl, ap, arith}
+use Rattle.std.specs.List.{slice_index_or}
 use Rattle.xc_theory.specs.Codes.{total}
 use Rattle.xc_theory.specs.Lattices.{size, IsLawful}
 use Rattle.xc_theory.specs.Chains.{IsHeight}
 use Rattle.xc_alg.specs.Products.{product, sizes, AreLawful}
 use Rattle.xc_base.specs.Formats.{Row}
 use Rattle.xc_base.specs.Names.{has_twice}
-use Rattle.xc_order.specs.Order.{IsOrder}
-use Rattle.xc_order.specs.Heights.{steps_up, greatest_level}
-use Rattle.xc_order.proofs.Heights.{IsHeight-from_levels}
 use Rattle.xc_lattice.specs.LatticeFiles.{LatticeValue, Lawful, IsVerdict}
 use Rattle.xc_lattice.specs.Drafts.{IsReady}
 use Rattle.xc_lattice.proofs.Drafts.{IsDraft-from_whole}
 use Rattle.xc_lattice.proofs.Said.{IsReady-from_Says}
 use Rattle.xc_lattice.proofs.Lawful.{lawful_from_no_break}
 use Rattle.xc_product.specs.Heights.{AreHeights}
+use Rattle.xc_product.proofs.SomeHeights as heights
 use Rattle.xc_merge.specs.Merges.{Merge, Viewpoint, nobody, parts_of, names_of_parts}
 use Rattle.xc_ctl.specs.Trees.{sizes_of}
 
@@ -53,40 +49,21 @@ file_is_named rows l is =
       few = ready.few;
     }
 
--- an antisymmetric order has a height
-height_of : (n : ℕ) (table : List (List Bool)) → IsOrder n table → IsAntisymmetric table → (h : ℕ) × IsHeight table h
-height_of n table order anti =
-    let levels = map (steps_up table n) (range_with_len 0 (length table)) in (
-      greatest_level (slice_index levels) (length table),
-      IsHeight-from_levels n n table levels (greatest_level (slice_index levels) (length table)) order anti (omega arith)
-          (λ a within. get_or-map-range_with_len (steps_up table n) 0 (length table) a a 0 within (omega arith)) refl,
-    )
-
--- so has a lattice
+-- it has a height
 pub lattice_height : (l : LatticeValue) → IsNamed l → (h : ℕ) × IsHeight l.algebra.order h
-lattice_height l is =
-    height_of (size l.algebra) l.algebra.order
-    (record { positive = omega (arith, is.some); limit = is.few; square = is.lawful.shape.square; reflexive = is.lawful.reflexive; transitive = is.lawful.transitive })
-    is.lawful.antisymmetric
+lattice_height l is = heights.lattice_height l.algebra is.lawful is.some
 
-heights_of : (found : List Viewpoint) → AreNamed found → (heights : List ℕ) × AreHeights (map (λ (p : Viewpoint). p.lattice.algebra) found) heights
-heights_of [] are = ([], tt)
-heights_of (p ∷ found) are =
-    let first = lattice_height p.lattice are.0 in
-    let more = heights_of found are.1 in
-    (first.0 ∷ more.0, (first.1, more.1))
-
--- and so have those of viewpoints
-pub some_heights : (m : Merge) → AreNamed m.viewpoints → (heights : List ℕ) × AreHeights (parts_of m) heights
-some_heights m are = heights_of m.viewpoints are
-
--- their product is of lawful parts
+-- the product of those of viewpoints is of lawful parts
 lawful_of : (found : List Viewpoint) → AreNamed found → AreLawful (map (λ (p : Viewpoint). p.lattice.algebra) found)
 lawful_of [] are = tt
 lawful_of (p ∷ found) are = (are.0.lawful, are.0.some, lawful_of found are.1)
 
 pub parts_are_lawful : (m : Merge) → AreNamed m.viewpoints → AreLawful (parts_of m)
 parts_are_lawful m are = lawful_of m.viewpoints are
+
+-- which have heights
+pub some_heights : (m : Merge) → AreNamed m.viewpoints → (heights : List ℕ) × AreHeights (parts_of m) heights
+some_heights m are = heights.parts_have_heights (parts_of m) (parts_are_lawful m are)
 
 -- it has as many elements as there are rows of names
 sizes_same : (found : List Viewpoint) → AreNamed found → sizes_of (map (λ (p : Viewpoint). p.lattice.names) found) ≡ sizes (map (λ (p : Viewpoint). p.lattice.algebra) found)

@@ -1,11 +1,12 @@
 -- Requests, numbers and words that ask for nothing, at small cases whose answers are known from outside: a wrong definition does not check here.
-use Rattle.std.proofs.Common.{◌≡◌, [], ◌∷◌, Some, None, true, false, codes, refl}
+use Rattle.std.proofs.Common.{◌≡◌, [], ◌∷◌, Some, None, Ok, Err, true, false, codes, refl}
 use Rattle.clap.proofs.OnLiterals.{clap_on_literals}
 use Rattle.clap.specs.Words.{all_of, matches_of}
 use Rattle.xc_words.specs.CommandLine.{command, command_line, has_flag, is_taken}
 use Rattle.xc_words.specs.Numbers.{number_of}
-use Rattle.xc_words.specs.Requests.{request_of}
+use Rattle.xc_words.specs.Requests.{request_of, Answers}
 use Rattle.xc_words.specs.declared.asked.Request.TheVariants.{Lattice, Check, Show, Gen}
+use Rattle.xc_words.specs.declared.fault.WordsFault.TheVariants.{Words}
 use Rattle.xc_words.specs.declared.asked.ShowKind.TheVariants as kinds
 
 -- decimal digits, without sign or leading zero, up to the largest that 32 bits hold
@@ -106,3 +107,9 @@ pub taken : (is_taken (command_line []) ≡ true) × (is_taken (command_line (co
     × (is_taken (command_line (codes "--help" ∷ [])) ≡ false) × (is_taken (command_line (codes "-h" ∷ [])) ≡ false) × (is_taken (command_line (codes "check" ∷ codes "--plain" ∷ codes "--plain" ∷ [])) ≡ false) × (is_taken (command_line (codes "--size=1" ∷ [])) ≡ false)
 unfolding clap_on_literals
 taken = (refl, refl, refl, refl, refl, refl, refl)
+
+-- an answer is the request that the words are and no other, and `Words` where they are none
+pub answers : Answers (Some (Lattice (codes "a"))) (Ok (Lattice (codes "a"))) × ¬ Answers (Some (Lattice (codes "a"))) (Ok (Lattice []))
+    × ¬ Answers (Some (Lattice (codes "a"))) (Ok (Show kinds.Lattice (codes "a"))) × ¬ Answers (Some (Gen 7 4)) (Ok (Gen 4 7)) × ¬ Answers (Some (Lattice (codes "a"))) (Err Words)
+    × ¬ Answers None (Ok (Lattice (codes "a"))) × Answers None (Err Words)
+answers = (refl, (λ h. cc), (λ h. cc), (λ h. cc), (λ h. cc), (λ h. cc), refl)

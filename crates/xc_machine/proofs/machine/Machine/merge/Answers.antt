@@ -2,7 +2,7 @@ use Rattle.std.proofs.Common.{◌≤◌, ℕ, length, Some, ap, sym, ◌∙◌, 
 use Rattle.xc_merge.specs.declared.fault.MergeFault.TheVariants.{Initial}
 use Rattle.xc_machine.specs.Gathered.{merged_of}
 use Rattle.xc_machine.proofs.Descending.{found_count, found_states}
-use Rattle.xc_machine.proofs.Merging.{no_initial, many_initial}
+use Rattle.xc_machine.proofs.Merging.{no_fault, no_initial, many_initial}
 use Rattle.xc_machine.proofs.AsFrame.{steps_in, values_in}
 use Rattle.xc_machine.proofs.machine.Machine.merge.Goals as goal
 
@@ -24,6 +24,7 @@ invariant_of-result c =
       begins = listed;
       some = omega (arith, (found_count (merged_of c.args.merged) c.in_ok-found.found c.in_ok-found.ensures), ap length listed, c.if-found-eq0.false);
       few = omega (arith, (found_count (merged_of c.args.merged) c.in_ok-found.found c.in_ok-found.ensures), ap length listed);
+      faultless = no_fault (merged_of c.args.merged) c.in_ok-found.found c.requires c.in_ok-product.ensures.limit c.in_ok-found.ensures c.if-found-eq0.false few;
       steps = steps_in c.args.merged;
       values = values_in c.args.merged;
     }
