@@ -15,6 +15,3 @@ pub use laws::{
     products_are_algebras,
 };
 pub use op_table::OpTable;
-
-#[cfg(test)]
-mod tests;

@@ -1,8 +1,5 @@
 //! Cuts a text into lines, and a line into tokens.
 
-#[cfg(test)]
-mod tests;
-
 ghost use Rattle.std.specs.Prelude.{◌≡◌, ◌+◌, ◌^◌, ◌<◌, ◌≤◌, ◌++◌, [], ◌∷◌, None, length, drop, not, IfOk, OnOk, IfErr, IfSome, MatchOption, ◌==◌};
 ghost use Rattle.std.specs.List.{prefix_len, position_or_len, list_any};
 ghost use Rattle.xc_base.specs.Cutting.{token_size, IsFaultOf};

@@ -34,6 +34,3 @@ pub use spacing::{canonical_texts_are_cut, push_line, push_tokens, spaced};
 pub use stream_sink::StreamSink;
 pub use token_front::behind;
 pub use word::{Word, is_name_text, is_word_text};
-
-#[cfg(test)]
-mod tests;

@@ -36,10 +36,3 @@ pub use laws::{
 pub use reader::read_formulas;
 pub use rounds::Rounds;
 pub use verdict::files_have_one_reading;
-
-#[cfg(test)]
-mod machine_tests;
-#[cfg(test)]
-mod print_tests;
-#[cfg(test)]
-mod tests;

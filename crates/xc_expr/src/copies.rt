@@ -91,39 +91,3 @@ pub fn copy_vars(alloc: Global, vars: &Vars) -> Result<Vars, Memory>
 {
     copy_domains(alloc, vars.as_slice())
 }
-
-#[cfg(test)]
-mod tests {
-    use super::{copy_action, copy_guard, copy_vars};
-    use crate::assign::Assign;
-    use crate::guard_names::resolve_guard;
-    use crate::guard_parser::parse_guard;
-    use crate::tests::{told, vars};
-    use std::test::Fail;
-    use xc_base::{List, cut_lines};
-
-    #[test]
-    fn copies_are_equal(rt: HostRuntime) -> Result<(), Fail> {
-        let alloc = rt.alloc();
-        let vars = copy_vars(alloc, &vars(alloc)?)?;
-        let text = b"!(true | a=c & a!=c) & (a=d | a!=d & !false)".as_slice();
-        let lines = cut_lines(alloc, text, 4096)?;
-        if lines.len() == 0 {
-            panic!(rt; "no line");
-        }
-        let tokens = lines.lexemes(alloc, 0)?;
-        let Some(phrase) = parse_guard(alloc, tokens.as_slice())? else {
-            panic!(rt; "no guard");
-        };
-        let Some(guard) = resolve_guard(alloc, &phrase, &vars)? else {
-            panic!(rt; "a name is not known");
-        };
-        let copy = told(alloc, &copy_guard(alloc, &guard)?)?;
-        assert_eq!(rt; copy.as_str(), "(!(T | (0=1 & 0#1)) & (0~2 | (0^2 & !F)))");
-        let assigns = [Assign::Prev { var: 0, from: 2 }, Assign::Any { var: 1 }];
-        let action = List::of(alloc, &assigns)?;
-        let copy = copy_action(alloc, &action)?;
-        assert_eq!(rt; copy.as_slice(), assigns.as_slice());
-        Ok(())
-    }
-}

@@ -47,10 +47,3 @@ pub use print_laws::{printed_actions_are_read, printed_guards_are_read};
 pub use read::{read_action, read_guard};
 pub use setting::Setting;
 pub use words::{is_value_name, is_variable_name};
-
-#[cfg(test)]
-mod action_tests;
-#[cfg(test)]
-mod print_tests;
-#[cfg(test)]
-mod tests;

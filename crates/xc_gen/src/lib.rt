@@ -13,6 +13,3 @@ pub use fault::GenFault;
 pub use laws::{generated_files_are_named, generated_files_name_each_other};
 pub use making::make;
 pub use side::Side;
-
-#[cfg(test)]
-mod tests;

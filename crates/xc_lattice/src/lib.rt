@@ -26,8 +26,3 @@ pub use law::Law;
 pub use reader::read;
 pub use statement::Statement;
 pub use verdict::{LatticeFiles, files_have_one_verdict};
-
-#[cfg(test)]
-mod breaks_tests;
-#[cfg(test)]
-mod tests;

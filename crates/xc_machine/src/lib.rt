@@ -21,8 +21,3 @@ mod tabulate;
 mod tellings;
 
 pub use machine::Machine;
-
-#[cfg(test)]
-mod encoder_tests;
-#[cfg(test)]
-mod tests;

@@ -10,6 +10,3 @@ mod words;
 pub use fault::MergeFault;
 pub use feeding::{carried_word, line_for, line_of};
 pub use find::find_fault;
-
-#[cfg(test)]
-mod tests;

@@ -6,6 +6,3 @@ mod height;
 mod order;
 
 pub use order::{Order, Pair};
-
-#[cfg(test)]
-mod tests;

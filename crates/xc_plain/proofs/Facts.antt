@@ -8,7 +8,6 @@ use Rattle.xc_plain.specs.declared.row.Successor.{Successor}
 use Rattle.xc_plain.specs.declared.row.Row.{Row}
 use Rattle.xc_plain.specs.declared.row.Row.TheVariants.{Few, Each}
 use Rattle.xc_plain.specs.declared.form.Form.TheVariants.{SomeUntil, EachUntil, Always}
-use Rattle.xc_plain.specs.Machines.{clamped}
 use Rattle.xc_plain.specs.Successors.{few_joined, weighed_from, row_joined, numbers_in, row_at, next_by}
 use Rattle.xc_plain.specs.Told.{all_next_by, always_by, some_until_by, each_until_by, step_by, goes_up}
 use Rattle.xc_plain.specs.Nodes.{IsShaped, rows_at, last_row, rounds_in}
@@ -86,8 +85,3 @@ rows_told = (refl, refl, refl, refl)
 -- and a table of the program's with these rows tells the same
 pub table_told : (shaped : IsShaped 3 table) → ((table_of (record { states = 3; nodes = table; shaped = shaped })).at 1 1 ≡ 2) × ((table_of (record { states = 3; nodes = table; shaped = shaped })).rounds 1 ≡ 2)
 table_told shaped = (refl, refl)
-
--- a code that there is, and the bottom for one that there is not
-pub within : (clamped o 5 ≡ 5) × (clamped o 6 ≡ 0)
-unfolding product first_meet first_join
-within = (refl, refl)

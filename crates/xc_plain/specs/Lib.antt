@@ -3,4 +3,3 @@ pub mod Told
 pub mod Settled
 pub mod Nodes
 pub mod Tables
-pub mod Machines

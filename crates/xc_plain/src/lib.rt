@@ -13,6 +13,3 @@ mod table;
 
 pub use engine::{Engine, solve};
 pub use table::PlainTable;
-
-#[cfg(test)]
-mod tests;

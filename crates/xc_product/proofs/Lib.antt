@@ -2,5 +2,4 @@ pub mod Turns
 pub mod Sizes
 pub mod Digits
 pub mod HeightSums
-pub mod Literals
 pub mod Facts

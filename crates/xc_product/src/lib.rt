@@ -10,6 +10,3 @@ mod weights;
 
 pub use fault::ProductFault;
 pub use product::Product;
-
-#[cfg(test)]
-mod tests;

@@ -4,4 +4,3 @@ pub mod Lattices
 pub mod Framed
 pub mod Machined
 pub mod Facts
-pub mod Constants

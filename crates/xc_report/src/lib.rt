@@ -13,6 +13,3 @@ mod values;
 pub use blocks::block;
 pub use fit::formulas_fit;
 pub use heads::head;
-
-#[cfg(test)]
-mod tests;

@@ -23,6 +23,3 @@ pub use reader::read;
 pub use sigmap::SigMap;
 pub use statement::{Pair, Statement};
 pub use verdict::{MapFiles, files_have_one_map};
-
-#[cfg(test)]
-mod tests;

@@ -20,8 +20,3 @@ pub use lines::{Command, PropLine};
 pub use reader::read;
 pub use verdict::{ViewFiles, files_have_one_view};
 pub use view::View;
-
-#[cfg(test)]
-mod print_tests;
-#[cfg(test)]
-mod tests;

@@ -14,6 +14,3 @@ pub use fault::WordsFault;
 pub use file_name::FileName;
 pub use laws::lists_are_taken_without_fault;
 pub use reading::request;
-
-#[cfg(test)]
-mod tests;
