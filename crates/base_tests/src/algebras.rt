@@ -95,6 +95,9 @@ fn a_product_of_two_chains(rt: HostRuntime) -> Result<(), Fail> {
     assert_eq!(rt; parts.len(), 2);
     let product = Product::of(rt.alloc(), parts)?.copy(rt.alloc())?;
     assert_eq!(rt; product.height(), 3);
-    assert_eq!(rt; told(rt.alloc(), &product)?.as_str(), "5: 005<015<025<035<045<055<\n4: 014 114<125<044 144<155<\n3: 023 124 225<053 154 255<\n2: 032 042 052 335<345<355<\n1: 041 141 152 344 444<455<\n0: 050 151 252 353 454 555<\n");
+    assert_eq!(rt;
+        told(rt.alloc(), &product)?.as_str(),
+        "5: 005<015<025<035<045<055<\n4: 014 114<125<044 144<155<\n3: 023 124 225<053 154 255<\n2: 032 042 052 335<345<355<\n1: 041 141 152 344 444<455<\n0: 050 151 252 353 454 555<\n"
+    );
     Ok(())
 }

@@ -1,9 +1,8 @@
 //! Shelves and sinks at each call that fails, in memory and over the system's files.
 
 use std::alloc::{AllocError, Global};
-use std::fs;
-use std::io;
 use std::test::Fail;
+use std::{fs, io};
 use xc_base::{FileShelf, MemoryShelf, MemorySink, Shelf, SinkFault, StreamSink, put_all};
 
 fn written(alloc: Global, bytes: &[u8]) -> Result<String, AllocError> {
@@ -84,7 +83,10 @@ fn files_of_the_system_are_loaded(rt: HostRuntime) -> Result<(), Fail> {
         ("/dev/zero", 4, "\0\0\0\0\0"),
     ];
     for (name, limit, expected) in table {
-        assert_eq!(rt; loaded(rt.alloc(), &mut shelf, name, limit)?.as_str(), expected);
+        assert_eq!(rt;
+            loaded(rt.alloc(), &mut shelf, name, limit)?.as_str(),
+            expected
+        );
     }
     Ok(())
 }

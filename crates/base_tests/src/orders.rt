@@ -18,7 +18,10 @@ fn told(alloc: Global, order: &Order) -> Result<String, AllocError> {
 
 #[test]
 fn a_chain(rt: HostRuntime) -> Result<(), Fail> {
-    let pairs = List::of(rt.alloc(), &[Pair { low: 2, high: 1 }, Pair { low: 1, high: 0 }])?;
+    let pairs = List::of(
+        rt.alloc(),
+        &[Pair { low: 2, high: 1 }, Pair { low: 1, high: 0 }],
+    )?;
     let chain = Order::of(rt.alloc(), 3, &pairs)?.copy(rt.alloc())?;
     assert_eq!(rt; told(rt.alloc(), &chain)?.as_str(), "Some(2) Some(0) 2");
     Ok(())
@@ -26,7 +29,10 @@ fn a_chain(rt: HostRuntime) -> Result<(), Fail> {
 
 #[test]
 fn a_circle_beside_an_element(rt: HostRuntime) -> Result<(), Fail> {
-    let pairs = List::of(rt.alloc(), &[Pair { low: 0, high: 1 }, Pair { low: 1, high: 0 }])?;
+    let pairs = List::of(
+        rt.alloc(),
+        &[Pair { low: 0, high: 1 }, Pair { low: 1, high: 0 }],
+    )?;
     let circle = Order::of(rt.alloc(), 3, &pairs)?;
     assert_eq!(rt; told(rt.alloc(), &circle)?.as_str(), "None None");
     Ok(())

@@ -1,11 +1,9 @@
-//! What an encoder reads of machines, against values by hand.
+//! What an encoder reads of a machine, against values by hand.
 
 ghost use Rattle.std.specs.Prelude.{◌<◌, ◌≤◌, length};
 ghost use Rattle.xc_machine.specs.Machines.{merge_of};
 
-use crate::machines::{
-    ANN, BEN, CAT, CHAIN, DIAMOND, HOUSE, LEFT, PLANT, RIGHT, TWO, Viewpoint, machine_of,
-};
+use crate::machines::plant;
 use std::alloc::{AllocError, Global};
 use std::fmt::Write;
 use std::test::Fail;
@@ -64,42 +62,24 @@ fn tellings_told(alloc: Global, machine: &Machine, v: u8) -> Result<String, Allo
     Ok(text)
 }
 
-// All of this for each viewpoint, with its stutter value, and the product with the names of its parts' elements.
-fn told(alloc: Global, map: &str, viewpoints: &[Viewpoint]) -> Result<String, Fail> {
-    let machine = machine_of(alloc, map, viewpoints)?;
+// All of this for each viewpoint, with its stutter value.
+fn told(alloc: Global, machine: &Machine) -> Result<String, AllocError> {
     let mut text = String::new(alloc);
     for v in 0..machine.viewpoints() {
-        let feeds = feeds_told(alloc, &machine, v)?;
-        let elements = elements_told(alloc, &machine, v)?;
-        let tellings = tellings_told(alloc, &machine, v)?;
-        let stutter = machine.stutter(v);
-        write!(text, "{feeds},{elements},{tellings}, {stutter};")?;
+        text.push_str(feeds_told(alloc, machine, v)?.as_str())?;
+        text.push_str(elements_told(alloc, machine, v)?.as_str())?;
+        text.push_str(tellings_told(alloc, machine, v)?.as_str())?;
+        write!(text, " {};", machine.stutter(v))?;
     }
-    for names in machine.parts().as_slice() {
-        for name in names.as_slice() {
-            write!(text, " {}", name.as_str())?;
-        }
-    }
-    let product = machine.product();
-    write!(text, " {} {}", product.parts(), product.height())?;
     Ok(text)
 }
 
 #[test]
-fn the_house_and_the_plant(rt: HostRuntime) -> Result<(), Fail> {
-    let house = told(
-        rt.alloc(),
-        HOUSE,
-        &[(ANN, CHAIN), (BEN, DIAMOND), (CAT, TWO)],
-    )?;
+fn parts_of_the_plant(rt: HostRuntime) -> Result<(), Fail> {
+    let machine = plant(rt.alloc())?;
     assert_eq!(rt;
-        house.as_str(),
-        " 0:01 1:01, 2 2 1, 2 2 1, None100 None011, 0; 0:01 1:01, 1 3, 3 2 3, None100 None011, 0; 1:01, 1, 1, None1 Some(1)0, 1; F M T F N B T F T 3 5"
-    );
-    let plant = told(rt.alloc(), PLANT, &[(LEFT, CHAIN), (RIGHT, DIAMOND)])?;
-    assert_eq!(rt;
-        plant.as_str(),
-        " 1:01 0:011, 1 2 0, 2 1 1, None101 Some(1)000, 0; 0:102, 2, 1 2, Some(2)00 None11, 1; F M T F N B T 2 4"
+        told(rt.alloc(), &machine)?.as_str(),
+        " 1:01 0:011 1 2 0, 2 1 1 None101 Some(1)000 0; 0:102 2, 1 2 Some(2)00 None11 1;"
     );
     Ok(())
 }

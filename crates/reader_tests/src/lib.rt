@@ -1,15 +1,8 @@
-//! Tests of guards and actions, viewpoints, maps, formulas, generated files and the command line: what no clause says of them,
-//! against values by hand.
+//! Tests of guards and actions, viewpoints and generated files, of what no clause says: values by hand that no answer of `run` shows.
 #![tactic(auto)]
 
 #[cfg(test)]
-mod formulas;
-#[cfg(test)]
 mod generated;
-#[cfg(test)]
-mod maps;
-#[cfg(test)]
-mod requests;
 #[cfg(test)]
 mod states;
 #[cfg(test)]
