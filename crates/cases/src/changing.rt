@@ -1,3 +1,7 @@
+ghost use Rattle.std.specs.Prelude.{◌≡◌, ℕ, ◌+◌, ◌<◌, ◌≤◌, ◌∷◌, ◌++◌, [], nat_eq, length, take, IfOk, OnOk, IsTrue, string_bytes, slice_set};
+ghost use Rattle.std.specs.List.{starts_with};
+ghost use Rattle.cases.specs.Changes.{begins_line, ends_line, is_line_at, IsOnlyLineAt, spliced, IsChanged};
+
 use crate::fault::Why;
 use std::alloc::{AllocError, Global};
 
@@ -11,7 +15,7 @@ const NUMBER: &str = "{n}";
 #[derive(Drop)]
 pub enum Change {
     /// A line in place of another.
-    Replace { line: String, with: String },
+    Replace { line: String, by: String },
     /// A line after another.
     Insert { line: String, after: String },
     /// A line at the end.
@@ -26,17 +30,34 @@ pub enum Change {
     SetByte { byte: u8, at: u64 },
 }
 
+/// Whether a line begins at that place of a text.
+fn begins_line(text: &[u8], at: usize) -> bool
+    requires { at ≤ length text.now }
+    ensures { result ≡ begins_line text.now at }
+{
+    at == 0 || text[at - 1] == LINE_END
+}
+
+/// Whether a line ends at that place of a text.
+fn ends_line(text: &[u8], at: usize) -> bool
+    requires { at ≤ length text.now }
+    ensures { result ≡ ends_line text.now at }
+{
+    at == text.len() || text[at] == LINE_END
+}
+
 /// Whether a line stands at that place of a text.
-fn is_line_at(text: &[u8], line: &[u8], at: usize) -> bool {
-    if at > text.len() || (at > 0 && text[at - 1] != LINE_END) {
-        return false;
-    }
-    let rest = &text[at..];
-    rest.starts_with(line) && (rest.len() == line.len() || rest[line.len()] == LINE_END)
+fn is_line_at(text: &[u8], line: &[u8], at: usize) -> bool
+    requires { at ≤ length text.now }
+    ensures { result ≡ is_line_at text.now line.now at }
+{
+    begins_line(text, at) && text[at..].starts_with(line) && ends_line(text, at + line.len())
 }
 
 /// The one place at which a line stands.
-fn place_of(alloc: Global, text: &[u8], line: &str) -> Result<usize, Why> {
+fn place_of(alloc: Global, text: &[u8], line: &str) -> Result<usize, Why>
+    ensures { IfOk result (IsOnlyLineAt text.now line.now) }
+{
     let mut found = None;
     for at in 0..text.len() {
         if is_line_at(text, line.as_bytes(), at) {
@@ -59,7 +80,11 @@ fn spliced(
     from: usize,
     to: usize,
     middle: &[u8],
-) -> Result<Vec<u8>, AllocError> {
+) -> Result<Vec<u8>, AllocError>
+    requires from { from ≤ length text.now }
+    requires to { to ≤ length text.now }
+    ensures { IfOk result (λ v. v.items ≡ spliced text.now from to middle.now) }
+{
     let mut changed = Vec::new(alloc);
     changed.extend_from_slice(&text[..from])?;
     changed.extend_from_slice(middle)?;
@@ -68,13 +93,17 @@ fn spliced(
 }
 
 /// The text with a line in place of another.
-fn replaced(alloc: Global, text: &[u8], line: &str, with: &str) -> Result<Vec<u8>, Why> {
+fn replaced(alloc: Global, text: &[u8], line: &str, by: &str) -> Result<Vec<u8>, Why>
+    ensures { IfOk result (λ v. (at : ℕ) × IsOnlyLineAt text.now line.now at × (v.items ≡ spliced text.now at (at + length line.now) by.now)) }
+{
     let at = place_of(alloc, text, line)?;
-    Ok(spliced(alloc, text, at, at + line.len(), with.as_bytes())?)
+    Ok(spliced(alloc, text, at, at + line.len(), by.as_bytes())?)
 }
 
 /// The text with a line after another.
-fn inserted(alloc: Global, text: &[u8], line: &str, after: &str) -> Result<Vec<u8>, Why> {
+fn inserted(alloc: Global, text: &[u8], line: &str, after: &str) -> Result<Vec<u8>, Why>
+    ensures { IfOk result (λ v. (at : ℕ) × IsOnlyLineAt text.now after.now at × (v.items ≡ spliced text.now (at + length after.now) (at + length after.now) (10 ∷ line.now))) }
+{
     let at = place_of(alloc, text, after)? + after.len();
     let mut added = String::from_str(alloc, "\n")?;
     added.push_str(line)?;
@@ -82,7 +111,9 @@ fn inserted(alloc: Global, text: &[u8], line: &str, after: &str) -> Result<Vec<u
 }
 
 /// The text without a line.
-fn removed(alloc: Global, text: &[u8], line: &str) -> Result<Vec<u8>, Why> {
+fn removed(alloc: Global, text: &[u8], line: &str) -> Result<Vec<u8>, Why>
+    ensures { IfOk result (λ v. (at : ℕ) × IsOnlyLineAt text.now line.now at × (v.items ≡ spliced text.now at (at + length line.now + 1) [])) }
+{
     let at = place_of(alloc, text, line)?;
     let end = text.len().min(at + line.len() + 1);
     Ok(spliced(alloc, text, at, end, b"")?)
@@ -102,7 +133,9 @@ fn numbered(alloc: Global, text: &str, number: u64) -> Result<String, AllocError
 }
 
 /// Adds a text at the end, so many times.
-fn repeat(alloc: Global, bytes: &mut Vec<u8>, text: &str, times: u64) -> Result<(), AllocError> {
+fn repeat(alloc: Global, bytes: &mut Vec<u8>, text: &str, times: u64) -> Result<(), AllocError>
+    ensures { OnOk result (IsTrue (starts_with nat_eq bytes.new.items bytes.old.items)) }
+{
     for number in 0..times {
         bytes.extend_from_slice(numbered(alloc, text, number)?.as_bytes())?;
     }
@@ -110,18 +143,24 @@ fn repeat(alloc: Global, bytes: &mut Vec<u8>, text: &str, times: u64) -> Result<
 }
 
 /// Cuts a text to that length, which it has.
-fn cut(bytes: &mut Vec<u8>, length: u64) -> Result<(), Why> {
-    match usize::try_from(length) {
+fn cut(bytes: &mut Vec<u8>, end: u64) -> Result<(), Why>
+    ensures within { OnOk result (end ≤ length bytes.old.items) }
+    ensures after { OnOk result (bytes.new.items ≡ take end bytes.old.items) }
+{
+    match usize::try_from(end) {
         Ok(length) if length <= bytes.len() => {
             bytes.truncate(length);
             Ok(())
         }
-        _ => Err(Why::PastEnd(length)),
+        _ => Err(Why::PastEnd(end)),
     }
 }
 
 /// Puts a byte at a place that is there.
-fn set_byte(bytes: &mut Vec<u8>, byte: u8, at: u64) -> Result<(), Why> {
+fn set_byte(bytes: &mut Vec<u8>, byte: u8, at: u64) -> Result<(), Why>
+    ensures within { OnOk result (at < length bytes.old.items) }
+    ensures after { OnOk result (bytes.new.items ≡ slice_set bytes.old.items at byte) }
+{
     match usize::try_from(at) {
         Ok(at) if at < bytes.len() => {
             bytes[at] = byte;
@@ -132,10 +171,12 @@ fn set_byte(bytes: &mut Vec<u8>, byte: u8, at: u64) -> Result<(), Why> {
 }
 
 /// The text with a change.
-pub fn changed(alloc: Global, mut bytes: Vec<u8>, change: &Change) -> Result<Vec<u8>, Why> {
+pub fn changed(alloc: Global, mut bytes: Vec<u8>, change: &Change) -> Result<Vec<u8>, Why>
+    ensures { IfOk result (λ v. IsChanged change.now bytes.items v.items) }
+{
     match change {
-        Change::Replace { line, with } => {
-            return replaced(alloc, bytes.as_slice(), line.as_str(), with.as_str());
+        Change::Replace { line, by } => {
+            return replaced(alloc, bytes.as_slice(), line.as_str(), by.as_str());
         }
         Change::Insert { line, after } => {
             return inserted(alloc, bytes.as_slice(), line.as_str(), after.as_str());

@@ -1,9 +1,11 @@
+ghost use Rattle.std.specs.Prelude.{◌≡◌, ◌↔◌, IsTrue, IsNone, map, string_bytes};
+ghost use Rattle.cases.specs.Expectations.{Meets, IsAsExpected};
+
 use crate::case::{Expectation, Expected};
 use crate::running::Ran;
-use crate::watched::Loaded;
 
 /// What of a run is not as expected.
-#[derive(Clone, Copy, Debug, Drop, PartialEq, Eq)]
+#[derive(Clone, Copy, Debug, PartialEq, Eq)]
 pub enum Part {
     Status,
     Out,
@@ -13,7 +15,9 @@ pub enum Part {
 }
 
 /// Whether bytes are as expected.
-pub fn meets(expectation: &Expectation, bytes: &[u8]) -> bool {
+pub fn meets(expectation: &Expectation, bytes: &[u8]) -> bool
+    ensures { IsTrue result ↔ Meets expectation.now bytes.now }
+{
     match expectation {
         Expectation::Whole(text) => bytes == text.as_slice(),
         Expectation::PartOf(text) => {
@@ -23,25 +27,17 @@ pub fn meets(expectation: &Expectation, bytes: &[u8]) -> bool {
     }
 }
 
-/// Whether the names of the loads that failed are these.
-fn has_failed_at(loads: &[Loaded], names: &[String]) -> bool {
-    loads
-        .iter()
-        .filter(|load| load.has_failed)
-        .map(|load| load.name.as_str())
-        .eq(names.iter().map(|name| name.as_str()))
-}
-
-/// Whether the names of all loads are these.
-fn has_loaded(loads: &[Loaded], names: &[String]) -> bool {
-    loads
-        .iter()
-        .map(|load| load.name.as_str())
-        .eq(names.iter().map(|name| name.as_str()))
+/// Whether two lists of names are the same.
+fn are_same(left: &[String], right: &[String]) -> bool
+    ensures { IsTrue result ↔ (map string_bytes left.now ≡ map string_bytes right.now) }
+{
+    left == right
 }
 
 /// The first part of a run that is not as expected.
-pub fn first_difference(expected: &Expected, ran: &Ran) -> Option<Part> {
+pub fn first_difference(expected: &Expected, ran: &Ran) -> Option<Part>
+    ensures { IsNone result ↔ IsAsExpected expected.now ran.now }
+{
     if ran.status != expected.status {
         return Some(Part::Status);
     }
@@ -51,11 +47,11 @@ pub fn first_difference(expected: &Expected, ran: &Ran) -> Option<Part> {
     if !meets(&expected.err, ran.err.bytes()) {
         return Some(Part::Err);
     }
-    if !has_failed_at(ran.loads.as_slice(), expected.failed.as_slice()) {
+    if !are_same(ran.failed.as_slice(), expected.failed.as_slice()) {
         return Some(Part::Failed);
     }
     match &expected.loads {
-        Some(names) if !has_loaded(ran.loads.as_slice(), names.as_slice()) => Some(Part::Loads),
+        Some(names) if !are_same(ran.loads.as_slice(), names.as_slice()) => Some(Part::Loads),
         _ => None,
     }
 }

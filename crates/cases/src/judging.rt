@@ -1,5 +1,8 @@
+ghost use Rattle.std.specs.Prelude.{IfOk};
+ghost use Rattle.cases.specs.Verdicts.{IsJust};
+
 use crate::case::{Case, NamedText};
-use crate::running::{Turn, run_once};
+use crate::running::{Ran, Turn, run_once};
 use crate::turns::{difference, err_puts_in_turn, loads_in_turn, puts_in_turn};
 use crate::written::Each;
 use std::alloc::Global;
@@ -8,8 +11,8 @@ use xc_base::Memory;
 /// What came of a case.
 #[derive(Drop)]
 pub enum Verdict {
-    /// All its runs are as expected. This is the out of the first one.
-    Passed(Vec<u8>),
+    /// All its runs are as expected. This is the first one.
+    Passed(Ran),
     /// A run is not, and how.
     Differs(String),
 }
@@ -30,7 +33,9 @@ fn in_turn(
 }
 
 /// Runs a case, and compares.
-pub fn judge(alloc: Global, examples: &[NamedText], case: &Case) -> Result<Verdict, Memory> {
+pub fn judge(alloc: Global, examples: &[NamedText], case: &Case) -> Result<Verdict, Memory>
+    ensures { IfOk result (IsJust case.now.expected) }
+{
     let ran = run_once(alloc, examples, case, Turn::None)?;
     if let Some(told) = difference(alloc, Turn::None, &case.expected, &ran)? {
         return Ok(Verdict::Differs(told));
@@ -40,5 +45,5 @@ pub fn judge(alloc: Global, examples: &[NamedText], case: &Case) -> Result<Verdi
             return Ok(Verdict::Differs(told));
         }
     }
-    Ok(Verdict::Passed(Vec::from_slice(alloc, ran.out.bytes())?))
+    Ok(Verdict::Passed(ran))
 }

@@ -58,8 +58,8 @@ fn change_of(written: WrittenChange) -> Option<Change> {
     let lines = (replace, with, add, after, remove);
     let bytes = (cut, repeat, times, (byte, at));
     match (lines, bytes) {
-        ((Some(line), Some(with), None, None, None), (None, None, None, (None, None))) => {
-            Some(Change::Replace { line, with })
+        ((Some(line), Some(by), None, None, None), (None, None, None, (None, None))) => {
+            Some(Change::Replace { line, by })
         }
         ((None, None, Some(line), Some(after), None), (None, None, None, (None, None))) => {
             Some(Change::Insert { line, after })

@@ -1,5 +1,5 @@
 use crate::case::{Case, NamedText};
-use crate::watched::{Loaded, WatchedShelf};
+use crate::watched::WatchedShelf;
 use std::alloc::Global;
 use xc_base::{Memory, MemoryShelf, MemorySink};
 use xc_top::{Status, run};
@@ -19,7 +19,9 @@ pub struct Ran {
     pub status: Status,
     pub out: MemorySink,
     pub err: MemorySink,
-    pub loads: Vec<Loaded>,
+    /// The names of all loads in order, and of those that failed.
+    pub loads: Vec<String>,
+    pub failed: Vec<String>,
 }
 
 /// The shelf of a case: all example files, and before them the files of the case.
@@ -76,6 +78,7 @@ pub fn run_once(
     let mut shelf = WatchedShelf {
         shelf: shelf_of(alloc, examples, case, turn)?,
         loads: Vec::new(alloc),
+        failed: Vec::new(alloc),
     };
     let status = run(alloc, &case.words, &mut shelf, &mut out, &mut err);
     Ok(Ran {
@@ -83,5 +86,6 @@ pub fn run_once(
         out,
         err,
         loads: shelf.loads,
+        failed: shelf.failed,
     })
 }

@@ -1,3 +1,5 @@
+ghost use Rattle.std.specs.Prelude.{◌≡◌, OnOk};
+
 use crate::case::{Case, NamedText};
 use crate::fault::{Fault, Why};
 use crate::judging::{Verdict, judge};
@@ -5,7 +7,7 @@ use crate::making::{Sources, case_of};
 use crate::parts::parts_of;
 use crate::tally::Tally;
 use crate::written::WrittenCase;
-use std::alloc::Global;
+use std::alloc::{AllocError, Global};
 use xc_base::Memory;
 
 /// The example files, and what came of the cases so far.
@@ -18,6 +20,9 @@ pub struct Suite {
 }
 
 impl Suite {
+    ghost use Rattle.cases.specs.Tallies.{counted};
+    ghost use Rattle.cases.specs.Verdicts.{has_passed};
+
     /// A suite of which no case was run.
     pub fn new(alloc: Global, examples: Vec<NamedText>) -> Suite {
         Suite {
@@ -50,20 +55,36 @@ impl Suite {
         case_of(alloc, &sources, written)
     }
 
-    /// Runs a case, counts it, and keeps its out.
-    fn run_case(&mut self, alloc: Global, file: &str, case: Case) -> Result<(), Memory> {
-        let verdict = judge(alloc, self.examples.as_slice(), &case)?;
-        self.tally.count(matches!(verdict, Verdict::Passed(_)));
-        let name = case.name;
+    /// Counts a case, keeps its out, and reports how it differs.
+    fn settle(
+        &mut self,
+        alloc: Global,
+        file: &str,
+        name: String,
+        verdict: Verdict,
+    ) -> Result<(), AllocError>
+        ensures { OnOk result (self.new.tally ≡ counted self.old.tally (has_passed verdict)) }
+    {
         let bytes = match verdict {
-            Verdict::Passed(out) => out,
+            Verdict::Passed(ran) => {
+                self.tally.count(true);
+                Vec::from_slice(alloc, ran.out.bytes())?
+            }
             Verdict::Differs(told) => {
+                self.tally.count(false);
                 let line = format!(in alloc; "{file}: {name}\n{told}")?;
                 self.report.push_str(line.as_str())?;
                 Vec::new(alloc)
             }
         };
         self.outs.push(NamedText { name, bytes })?;
+        Ok(())
+    }
+
+    /// Runs a case and settles it.
+    fn run_case(&mut self, alloc: Global, file: &str, case: Case) -> Result<(), Memory> {
+        let verdict = judge(alloc, self.examples.as_slice(), &case)?;
+        self.settle(alloc, file, case.name, verdict)?;
         Ok(())
     }
 

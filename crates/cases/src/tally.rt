@@ -1,3 +1,5 @@
+ghost use Rattle.std.specs.Prelude.{◌≡◌, ◌<◌, ◌↔◌, IsTrue};
+
 use std::fmt;
 
 /// How many cases passed and failed.
@@ -8,8 +10,13 @@ pub struct Tally {
 }
 
 impl Tally {
+    ghost use Rattle.cases.specs.Tallies.{counted};
+
     /// No case.
-    pub fn new() -> Tally {
+    pub fn new() -> Tally
+        ensures passed { result.passed ≡ 0 }
+        ensures failed { result.failed ≡ 0 }
+    {
         Tally {
             passed: 0,
             failed: 0,
@@ -17,7 +24,9 @@ impl Tally {
     }
 
     /// One more case, which passed or failed.
-    pub fn count(&mut self, has_passed: bool) {
+    pub fn count(&mut self, has_passed: bool)
+        ensures { self.new ≡ counted self.old has_passed }
+    {
         if has_passed {
             self.passed = self.passed.saturating_add(1);
         } else {
@@ -26,7 +35,9 @@ impl Tally {
     }
 
     /// Whether some case passed and none failed.
-    pub fn is_good(&self) -> bool {
+    pub fn is_good(&self) -> bool
+        ensures { IsTrue result ↔ ((0 < self.now.passed) × (self.now.failed ≡ 0)) }
+    {
         self.passed > 0 && self.failed == 0
     }
 }

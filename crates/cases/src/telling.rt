@@ -72,22 +72,14 @@ fn tell_text(
     writeln!(told, "    the first byte that differs is byte {place}")
 }
 
-/// Adds the names of the loads that are expected, and those of the run.
-fn tell_loads(
+/// Adds names that are expected, and those of the run.
+fn tell_names(
     told: &mut String,
-    part: Part,
-    expected: &Expected,
-    ran: &Ran,
+    expected: &Vec<String>,
+    got: &Vec<String>,
 ) -> Result<(), AllocError> {
-    match (&expected.loads, part) {
-        (Some(names), Part::Loads) => writeln!(told, "    expected: {names:?}")?,
-        _ => {
-            let names = &expected.failed;
-            writeln!(told, "    expected: {names:?}")?;
-        }
-    }
-    let loads = &ran.loads;
-    writeln!(told, "    got:      {loads:?}")
+    writeln!(told, "    expected: {expected:?}")?;
+    writeln!(told, "    got:      {got:?}")
 }
 
 /// How a run differs from what is expected of it.
@@ -107,7 +99,11 @@ pub fn told(
         Part::Status | Part::Err => {
             tell_text(alloc, &mut told, &expected.err, ran.err.bytes())?;
         }
-        Part::Failed | Part::Loads => tell_loads(&mut told, part, expected, ran)?,
+        Part::Failed => tell_names(&mut told, &expected.failed, &ran.failed)?,
+        Part::Loads => {
+            let names = expected.loads.as_ref().unwrap_or(&expected.failed);
+            tell_names(&mut told, names, &ran.loads)?;
+        }
     }
     Ok(told)
 }

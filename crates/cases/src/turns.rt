@@ -1,5 +1,8 @@
 //! Further runs of a case, in which one call after another fails.
 
+ghost use Rattle.std.specs.Prelude.{◌↔◌, IfOk, IsNone};
+ghost use Rattle.cases.specs.Expectations.{IsAsExpected};
+
 use crate::case::{Case, Expectation, Expected, NamedText};
 use crate::comparing::first_difference;
 use crate::running::{Ran, Turn, run_once};
@@ -20,7 +23,9 @@ pub fn difference(
     turn: Turn,
     expected: &Expected,
     ran: &Ran,
-) -> Result<Option<String>, AllocError> {
+) -> Result<Option<String>, AllocError>
+    ensures { IfOk result (λ told. IsNone told ↔ IsAsExpected expected.now ran.now) }
+{
     match first_difference(expected, ran) {
         Some(part) => Ok(Some(told(alloc, turn, part, expected, ran)?)),
         None => Ok(None),

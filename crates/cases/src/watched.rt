@@ -3,18 +3,12 @@ ghost use Rattle.std.specs.Prelude.{◌≡◌, ◌<◌, ◌≤◌, ◌^◌, ◌+
 use std::alloc::Global;
 use xc_base::{LoadFault, MemoryShelf, Shelf};
 
-/// A load: the name, and whether it failed.
-#[derive(Debug, Drop)]
-pub struct Loaded {
-    pub name: String,
-    pub has_failed: bool,
-}
-
-/// A shelf in memory that keeps what was loaded.
+/// A shelf in memory that keeps the names of the loads, and of those that failed.
 #[derive(Debug, Drop)]
 pub struct WatchedShelf {
     pub shelf: MemoryShelf,
-    pub loads: Vec<Loaded>,
+    pub loads: Vec<String>,
+    pub failed: Vec<String>,
 }
 
 impl Shelf for WatchedShelf {
@@ -26,16 +20,12 @@ impl Shelf for WatchedShelf {
 
     fn load(&mut self, alloc: Global, name: &str, limit: usize) -> Result<Vec<u8>, LoadFault> {
         let copy = String::from_str(alloc, name).map_err(|_| LoadFault::Memory)?;
-        let kept = Loaded {
-            name: copy,
-            has_failed: false,
-        };
-        self.loads.push(kept).map_err(|_| LoadFault::Memory)?;
+        self.loads.push(copy).map_err(|_| LoadFault::Memory)?;
+        let copy = String::from_str(alloc, name).map_err(|_| LoadFault::Memory)?;
+        self.failed.push(copy).map_err(|_| LoadFault::Memory)?;
         let loaded = self.shelf.load(alloc, name, limit);
-        if matches!(loaded, Err(LoadFault::Failed)) {
-            if let Some(last) = self.loads.last_mut() {
-                last.has_failed = true;
-            }
+        if !matches!(loaded, Err(LoadFault::Failed)) {
+            let _ = self.failed.pop();
         }
         loaded
     }
