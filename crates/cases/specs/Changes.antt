@@ -1,5 +1,5 @@
 -- What a change makes of a text.
-use Rattle.std.specs.Prelude.{◌≡◌, ℕ, ◌+◌, ◌-◌, ◌<◌, ◌≤◌, Bool, nat_eq, ◌&&◌, ◌||◌, List, [], ◌∷◌, ◌++◌, length, take, drop, slice_index, slice_set, IsTrue, string_bytes}
+use Rattle.std.specs.Prelude.{◌≡◌, ℕ, ◌+◌, ◌-◌, ◌<◌, ◌≤◌, Bool, nat_eq, ◌&&◌, ◌||◌, List, [], ◌∷◌, ◌++◌, length, take, drop, slice_index, slice_set, IsTrue}
 use Rattle.std.specs.List.{starts_with}
 use Rattle.cases.specs.declared.changing.Change.{Change}
 use Rattle.cases.specs.declared.changing.Change.TheVariants.{Replace, Insert, Append, Remove, Cut, Repeat, SetByte}
@@ -18,7 +18,7 @@ is_line_at text line at = begins_line text at && (starts_with nat_eq (drop at te
 -- a line stands at that place of a text and at no other
 pub record IsOnlyLineAt (text line : List ℕ) (at : ℕ) : Type 0 where
   pub stands : IsTrue (is_line_at text line at)
-  pub within : at < length text
+  pub within : at + length line ≤ length text
   pub alone : (k : ℕ) → k < length text → IsTrue (is_line_at text line k) → k ≡ at
 
 -- the text with other bytes in place of those from one place up to another
@@ -27,10 +27,10 @@ spliced text from to middle = (take from text ++ middle) ++ drop to text
 
 -- the text of a change, and the one that it is made of
 abbrev pub IsChanged : Change → List ℕ → List ℕ → Type 0
-IsChanged (Replace line by) old new = (at : ℕ) × IsOnlyLineAt old (string_bytes line) at × (new ≡ spliced old at (at + length (string_bytes line)) (string_bytes by))
-IsChanged (Insert line after) old new = (at : ℕ) × IsOnlyLineAt old (string_bytes after) at × (new ≡ spliced old (at + length (string_bytes after)) (at + length (string_bytes after)) (10 ∷ string_bytes line))
-IsChanged (Append line) old new = new ≡ (old ++ string_bytes line) ++ 10 ∷ []
-IsChanged (Remove line) old new = (at : ℕ) × IsOnlyLineAt old (string_bytes line) at × (new ≡ spliced old at (at + length (string_bytes line) + 1) [])
-IsChanged (Cut length') old new = (length' ≤ length old) × (new ≡ take length' old)
+IsChanged (Replace line by) old new = (at : ℕ) × IsOnlyLineAt old line.now at × (new ≡ spliced old at (at + length line.now) by.now)
+IsChanged (Insert line after) old new = (at : ℕ) × IsOnlyLineAt old after.now at × (new ≡ spliced old (at + length after.now) (at + length after.now) (10 ∷ line.now))
+IsChanged (Append line) old new = new ≡ (old ++ line.now) ++ 10 ∷ []
+IsChanged (Remove line) old new = (at : ℕ) × IsOnlyLineAt old line.now at × (new ≡ spliced old at (at + length line.now + 1) [])
+IsChanged (Cut end) old new = (end ≤ length old) × (new ≡ take end old)
 IsChanged (Repeat text times) old new = IsTrue (starts_with nat_eq new old)
 IsChanged (SetByte byte at) old new = (at < length old) × (new ≡ slice_set old at byte)

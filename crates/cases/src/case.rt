@@ -1,3 +1,5 @@
+ghost use Rattle.std.specs.Prelude.{◌<◌};
+
 use crate::written::Each;
 use xc_top::Status;
 
@@ -49,4 +51,5 @@ pub struct Case {
     pub each: Vec<Each>,
     pub piece: usize,
     pub expected: Expected,
+    ghost takes_some: { 0 < piece },
 }

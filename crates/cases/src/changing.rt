@@ -12,20 +12,20 @@ const LINE_END: u8 = b'\n';
 const NUMBER: &str = "{n}";
 
 /// A change of a text.
-#[derive(Drop)]
-pub enum Change {
+#[derive(Clone, Copy)]
+pub enum Change<'a> {
     /// A line in place of another.
-    Replace { line: String, by: String },
+    Replace { line: &'a str, by: &'a str },
     /// A line after another.
-    Insert { line: String, after: String },
+    Insert { line: &'a str, after: &'a str },
     /// A line at the end.
-    Append { line: String },
+    Append { line: &'a str },
     /// A line is left out.
-    Remove { line: String },
+    Remove { line: &'a str },
     /// The text up to that length.
-    Cut { length: u64 },
+    Cut { end: u64 },
     /// A text so many times at the end, in which `{n}` stands for the number of the copy, counted from 0.
-    Repeat { text: String, times: u64 },
+    Repeat { text: &'a str, times: u64 },
     /// A byte at a place.
     SetByte { byte: u8, at: u64 },
 }
@@ -49,7 +49,8 @@ fn ends_line(text: &[u8], at: usize) -> bool
 /// Whether a line stands at that place of a text.
 fn is_line_at(text: &[u8], line: &[u8], at: usize) -> bool
     requires { at ≤ length text.now }
-    ensures { result ≡ is_line_at text.now line.now at }
+    ensures value { result ≡ is_line_at text.now line.now at }
+    ensures within { IsTrue result → at + length line.now ≤ length text.now }
 {
     begins_line(text, at) && text[at..].starts_with(line) && ends_line(text, at + line.len())
 }
@@ -171,24 +172,24 @@ fn set_byte(bytes: &mut Vec<u8>, byte: u8, at: u64) -> Result<(), Why>
 }
 
 /// The text with a change.
-pub fn changed(alloc: Global, mut bytes: Vec<u8>, change: &Change) -> Result<Vec<u8>, Why>
-    ensures { IfOk result (λ v. IsChanged change.now bytes.items v.items) }
+pub fn changed(alloc: Global, mut bytes: Vec<u8>, change: Change<'_>) -> Result<Vec<u8>, Why>
+    ensures { IfOk result (IsChanged change.entry bytes.items) }
 {
     match change {
         Change::Replace { line, by } => {
-            return replaced(alloc, bytes.as_slice(), line.as_str(), by.as_str());
+            return replaced(alloc, bytes.as_slice(), line, by);
         }
         Change::Insert { line, after } => {
-            return inserted(alloc, bytes.as_slice(), line.as_str(), after.as_str());
+            return inserted(alloc, bytes.as_slice(), line, after);
         }
-        Change::Remove { line } => return removed(alloc, bytes.as_slice(), line.as_str()),
+        Change::Remove { line } => return removed(alloc, bytes.as_slice(), line),
         Change::Append { line } => {
             bytes.extend_from_slice(line.as_bytes())?;
             bytes.push(LINE_END)?;
         }
-        Change::Cut { length } => cut(&mut bytes, *length)?,
-        Change::Repeat { text, times } => repeat(alloc, &mut bytes, text.as_str(), *times)?,
-        Change::SetByte { byte, at } => set_byte(&mut bytes, *byte, *at)?,
+        Change::Cut { end } => cut(&mut bytes, end)?,
+        Change::Repeat { text, times } => repeat(alloc, &mut bytes, text, times)?,
+        Change::SetByte { byte, at } => set_byte(&mut bytes, byte, at)?,
     }
     Ok(bytes)
 }

@@ -30,6 +30,8 @@ pub enum Why {
     LineTwice(String),
     #[error("the file ends before byte {0}")]
     PastEnd(u64),
+    #[error("calls that fail in turn need the whole out and err, and the loads if they are loads")]
+    TurnsNeedMore,
     #[error("a piece has at least one byte")]
     NoPiece,
     #[error("out of memory")]

@@ -35,7 +35,7 @@ fn run_all<R: Files + AllocGlobal + Clone + Drop>(rt: &R) -> Result<Suite, Fault
     let alloc = rt.alloc();
     let mut suite = Suite::new(alloc, files_in(rt, EXAMPLES)?);
     for file in files_in(rt, CASES)? {
-        match core::str::from_utf8(file.bytes.as_slice()) {
+        match std::str::from_utf8(file.bytes.as_slice()) {
             Ok(text) => suite.run_file(alloc, file.name.as_str(), text)?,
             Err(_) => return Err(Fault::Unreadable(file.name)),
         }

@@ -1,7 +1,7 @@
 use crate::case::{Case, Expectation, Expected, Failing, NamedText};
 use crate::changing::{Change, changed};
 use crate::fault::Why;
-use crate::written::{WrittenCase, WrittenChange, WrittenFile};
+use crate::written::{Each, WrittenCase, WrittenChange, WrittenFile};
 use std::alloc::{AllocError, Global};
 use xc_top::Status;
 
@@ -42,41 +42,54 @@ fn out_of(alloc: Global, sources: &Sources<'_>, name: &str) -> Result<Vec<u8>, W
 }
 
 /// The change that is written, if it is one.
-fn change_of(written: WrittenChange) -> Option<Change> {
-    let WrittenChange {
-        replace,
-        with,
-        add,
-        after,
-        remove,
-        cut,
-        repeat,
-        times,
-        byte,
-        at,
-    } = written;
-    let lines = (replace, with, add, after, remove);
-    let bytes = (cut, repeat, times, (byte, at));
+fn change_of(written: &WrittenChange) -> Option<Change<'_>> {
+    let lines = (
+        &written.replace,
+        &written.with,
+        &written.add,
+        &written.after,
+        &written.remove,
+    );
+    let bytes = (
+        written.cut,
+        &written.repeat,
+        written.times,
+        written.byte,
+        written.at,
+    );
     match (lines, bytes) {
-        ((Some(line), Some(by), None, None, None), (None, None, None, (None, None))) => {
-            Some(Change::Replace { line, by })
+        ((Some(line), Some(by), None, None, None), (None, None, None, None, None)) => {
+            Some(Change::Replace {
+                line: line.as_str(),
+                by: by.as_str(),
+            })
         }
-        ((None, None, Some(line), Some(after), None), (None, None, None, (None, None))) => {
-            Some(Change::Insert { line, after })
+        ((None, None, Some(line), Some(after), None), (None, None, None, None, None)) => {
+            Some(Change::Insert {
+                line: line.as_str(),
+                after: after.as_str(),
+            })
         }
-        ((None, None, Some(line), None, None), (None, None, None, (None, None))) => {
-            Some(Change::Append { line })
+        ((None, None, Some(line), None, None), (None, None, None, None, None)) => {
+            Some(Change::Append {
+                line: line.as_str(),
+            })
         }
-        ((None, None, None, None, Some(line)), (None, None, None, (None, None))) => {
-            Some(Change::Remove { line })
+        ((None, None, None, None, Some(line)), (None, None, None, None, None)) => {
+            Some(Change::Remove {
+                line: line.as_str(),
+            })
         }
-        ((None, None, None, None, None), (Some(length), None, None, (None, None))) => {
-            Some(Change::Cut { length })
+        ((None, None, None, None, None), (Some(end), None, None, None, None)) => {
+            Some(Change::Cut { end })
         }
-        ((None, None, None, None, None), (None, Some(text), Some(times), (None, None))) => {
-            Some(Change::Repeat { text, times })
+        ((None, None, None, None, None), (None, Some(text), Some(times), None, None)) => {
+            Some(Change::Repeat {
+                text: text.as_str(),
+                times,
+            })
         }
-        ((None, None, None, None, None), (None, None, None, (Some(byte), Some(at)))) => {
+        ((None, None, None, None, None), (None, None, None, Some(byte), Some(at))) => {
             Some(Change::SetByte { byte, at })
         }
         _ => None,
@@ -97,14 +110,16 @@ fn source_of(alloc: Global, sources: &Sources<'_>, file: &WrittenFile) -> Result
 /// A file with all its changes.
 fn file_of(alloc: Global, sources: &Sources<'_>, file: WrittenFile) -> Result<NamedText, Why> {
     let mut bytes = source_of(alloc, sources, &file)?;
-    let name = file.name;
-    for change in file.changes {
-        let Some(change) = change_of(change) else {
-            return Err(Why::NoChange(name));
+    for written in &file.changes {
+        let Some(change) = change_of(written) else {
+            return Err(Why::NoChange(file.name.clone()?));
         };
-        bytes = changed(alloc, bytes, &change)?;
+        bytes = changed(alloc, bytes, change)?;
     }
-    Ok(NamedText { name, bytes })
+    Ok(NamedText {
+        name: file.name,
+        bytes,
+    })
 }
 
 /// The status of that name.
@@ -162,6 +177,15 @@ fn err_expected(alloc: Global, case: &WrittenCase) -> Result<Expectation, Why> {
     }
 }
 
+/// Whether it is known what comes of the runs in which calls fail in turn.
+fn has_turns(each: &[Each], expected: &Expected) -> bool {
+    let is_whole = matches!(
+        (&expected.out, &expected.err),
+        (Expectation::Whole(_), Expectation::Whole(_))
+    );
+    each.is_empty() || (is_whole && (expected.loads.is_some() || !each.contains(&Each::Load)))
+}
+
 /// The case that is written, with the texts of its files.
 pub fn case_of(alloc: Global, sources: &Sources<'_>, written: WrittenCase) -> Result<Case, Why> {
     let out = out_expected(alloc, sources, &written)?;
@@ -177,6 +201,16 @@ pub fn case_of(alloc: Global, sources: &Sources<'_>, written: WrittenCase) -> Re
     for file in written.file {
         files.push(file_of(alloc, sources, file)?)?;
     }
+    let expected = Expected {
+        status,
+        out,
+        err,
+        failed: written.failed,
+        loads: written.loads,
+    };
+    if !has_turns(written.each.as_slice(), &expected) {
+        return Err(Why::TurnsNeedMore);
+    }
     Ok(Case {
         name: written.name,
         words: written.words,
@@ -188,12 +222,6 @@ pub fn case_of(alloc: Global, sources: &Sources<'_>, written: WrittenCase) -> Re
         },
         each: written.each,
         piece: piece as usize,
-        expected: Expected {
-            status,
-            out,
-            err,
-            failed: written.failed,
-            loads: written.loads,
-        },
+        expected,
     })
 }

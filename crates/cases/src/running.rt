@@ -1,3 +1,5 @@
+ghost use Rattle.std.specs.Prelude.{◌<◌};
+
 use crate::case::{Case, NamedText};
 use crate::watched::WatchedShelf;
 use std::alloc::Global;
@@ -50,7 +52,9 @@ fn sink_of(
     piece: usize,
     failing: &[u64],
     more: Option<u64>,
-) -> Result<MemorySink, Memory> {
+) -> Result<MemorySink, Memory>
+    requires { 0 < piece }
+{
     let mut sink = MemorySink::new(alloc, piece);
     for call in failing {
         sink.fail(*call)?;
