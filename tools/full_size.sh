@@ -6,7 +6,7 @@ top="$(cd "$(dirname "$(readlink -f "$0")")/.." && pwd)"
 work="$(mktemp -d)"
 trap 'rm -rf "$work"' EXIT
 cd "$work" || exit 1
-cp "$top"/examples/*.lat "$top"/examples/solo.view .
+cp "$top"/examples/*.lat "$top"/examples/solo.view "$top"/examples/long.view .
 passed=0
 failed=0
 
@@ -78,6 +78,37 @@ check_case "twelve generated bits" 0 expected empty gen 7 12
 # Twenty generated bits have more states than there may be.
 echo 'refused states 1048576' >expected
 check_case "twenty generated bits" 3 empty expected gen 7 20
+
+# A chain of 64 elements, the most that a lattice may have.
+echo 'lattice long elements 64 height 63 bottom e0 top e63' >expected
+check_case "a chain of 64 elements" 0 expected empty lattice long.lat
+
+# long_map two | third: two viewpoints over that chain, which take their first step to e1, and maybe a third viewpoint.
+long_map() {
+    {
+        printf 'map long\nuse ann long.view\nuse ben long.view\n'
+        [ "$1" = third ] && echo 'use cat solo.view'
+        printf 'var x 0 1\nprop p\nsend ann x x\nsend ben x x\ntell ann p p\ntell ben p p\n'
+        [ "$1" = third ] && printf 'send cat x x\ntell cat p p\n'
+    } >long.map
+}
+
+# Two viewpoints over it have 4,096 elements, the most that a product may have.
+long_map two
+{
+    printf 'map long states 2 elements 4096 height 126 initial 1\nformula 1 EX p\nvalue 0 x=0 e1,e1\n'
+    for viewpoint in ann ben; do
+        row="share $viewpoint"
+        for ((k = 0; k < 64; k++)); do row+=" e$k=$((k == 1))"; done
+        echo "$row"
+    done
+} >expected
+check_case "two chains of 64 elements" 0 expected empty check long.map ex.ctl
+
+# A third viewpoint over two elements makes them too many.
+long_map third
+echo 'refused product 8192' >expected
+check_case "two chains of 64 elements and one of two" 3 empty expected check long.map ex.ctl
 
 echo "$passed cases passed, $failed failed"
 [ "$failed" -eq 0 ]
