@@ -32,5 +32,5 @@ IsChanged (Insert line after) old new = (at : ℕ) × IsOnlyLineAt old after.now
 IsChanged (Append line) old new = new ≡ (old ++ line.now) ++ 10 ∷ []
 IsChanged (Remove line) old new = (at : ℕ) × IsOnlyLineAt old line.now at × (new ≡ spliced old at (at + length line.now + 1) [])
 IsChanged (Cut end) old new = (end ≤ length old) × (new ≡ take end old)
-IsChanged (Repeat text times) old new = IsTrue (starts_with nat_eq new old)
+IsChanged (Repeat text times) old new = length old ≤ length new
 IsChanged (SetByte byte at) old new = (at < length old) × (new ≡ slice_set old at byte)

@@ -135,7 +135,7 @@ fn numbered(alloc: Global, text: &str, number: u64) -> Result<String, AllocError
 
 /// Adds a text at the end, so many times.
 fn repeat(alloc: Global, bytes: &mut Vec<u8>, text: &str, times: u64) -> Result<(), AllocError>
-    ensures { OnOk result (IsTrue (starts_with nat_eq bytes.new.items bytes.old.items)) }
+    ensures { OnOk result (length bytes.old.items ≤ length bytes.new.items) }
 {
     for number in 0..times {
         bytes.extend_from_slice(numbered(alloc, text, number)?.as_bytes())?;
@@ -173,7 +173,7 @@ fn set_byte(bytes: &mut Vec<u8>, byte: u8, at: u64) -> Result<(), Why>
 
 /// The text with a change.
 pub fn changed(alloc: Global, mut bytes: Vec<u8>, change: Change<'_>) -> Result<Vec<u8>, Why>
-    ensures { IfOk result (IsChanged change.entry bytes.items) }
+    ensures { IfOk result (λ v. IsChanged change.entry bytes.items v.items) }
 {
     match change {
         Change::Replace { line, by } => {

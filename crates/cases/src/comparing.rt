@@ -28,6 +28,7 @@ pub fn meets(expectation: &Expectation, bytes: &[u8]) -> bool
 }
 
 /// Whether two lists of names are the same.
+#[tactic(auto, using(crate::proofs::Names::same_names))]
 fn are_same(left: &[String], right: &[String]) -> bool
     ensures { IsTrue result ↔ (map string_bytes left.now ≡ map string_bytes right.now) }
 {
