@@ -1,0 +1,55 @@
+ghost use Rattle.std.specs.Prelude.{◌<◌};
+
+use crate::written::Each;
+use xc_top::Status;
+
+/// A file: its name and its bytes.
+#[derive(Debug, Drop)]
+pub struct NamedText {
+    pub name: String,
+    pub bytes: Vec<u8>,
+}
+
+/// What is expected of the bytes on out or err.
+#[derive(Debug, Drop)]
+pub enum Expectation {
+    /// They are this text.
+    Whole(Vec<u8>),
+    /// They are a prefix of this text that lacks something.
+    PartOf(Vec<u8>),
+    /// They begin with this text.
+    BeginsWith(Vec<u8>),
+}
+
+/// What is expected of a run.
+#[derive(Debug, Drop)]
+pub struct Expected {
+    pub status: Status,
+    pub out: Expectation,
+    pub err: Expectation,
+    /// The names whose loads failed, in order.
+    pub failed: Vec<String>,
+    /// The names of all loads in order, where the case says them.
+    pub loads: Option<Vec<String>>,
+}
+
+/// The numbers of the calls that fail, the first one being call 1.
+#[derive(Debug, Drop)]
+pub struct Failing {
+    pub loads: Vec<u64>,
+    pub puts: Vec<u64>,
+    pub err_puts: Vec<u64>,
+}
+
+/// A case that is ready to be run.
+#[derive(Drop)]
+pub struct Case {
+    pub name: String,
+    pub words: Vec<String>,
+    pub files: Vec<NamedText>,
+    pub failing: Failing,
+    pub each: Vec<Each>,
+    pub piece: usize,
+    pub expected: Expected,
+    ghost takes_some: { 0 < piece },
+}

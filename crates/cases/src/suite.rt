@@ -1,0 +1,107 @@
+ghost use Rattle.std.specs.Prelude.{◌≡◌, OnOk};
+
+use crate::case::{Case, NamedText};
+use crate::fault::{Fault, Why};
+use crate::judging::{Verdict, judge};
+use crate::making::{Sources, case_of};
+use crate::parts::parts_of;
+use crate::tally::Tally;
+use crate::written::WrittenCase;
+use std::alloc::{AllocError, Global};
+use xc_base::Memory;
+
+/// The example files, and what came of the cases so far.
+#[derive(Drop)]
+pub struct Suite {
+    examples: Vec<NamedText>,
+    outs: Vec<NamedText>,
+    tally: Tally,
+    report: String,
+}
+
+impl Suite {
+    ghost use Rattle.cases.specs.Tallies.{counted};
+    ghost use Rattle.cases.specs.Verdicts.{has_passed};
+
+    /// A suite of which no case was run.
+    pub fn new(alloc: Global, examples: Vec<NamedText>) -> Suite {
+        Suite {
+            examples,
+            outs: Vec::new(alloc),
+            tally: Tally::new(),
+            report: String::new(alloc),
+        }
+    }
+
+    /// How many cases passed and failed.
+    pub fn tally(&self) -> Tally {
+        self.tally
+    }
+
+    /// How cases differ from what is expected of them.
+    pub fn report(&self) -> &str {
+        self.report.as_str()
+    }
+
+    /// The case that is written.
+    fn case_of(&self, alloc: Global, written: WrittenCase) -> Result<Case, Why> {
+        if self.outs.iter().any(|out| out.name == written.name) {
+            return Err(Why::SecondName(written.name));
+        }
+        let sources = Sources {
+            examples: self.examples.as_slice(),
+            outs: self.outs.as_slice(),
+        };
+        case_of(alloc, &sources, written)
+    }
+
+    /// Counts a case, keeps its out, and reports how it differs.
+    fn settle(
+        &mut self,
+        alloc: Global,
+        file: &str,
+        name: String,
+        verdict: Verdict,
+    ) -> Result<(), AllocError>
+        ensures { OnOk result (self.new.tally ≡ counted self.old.tally (has_passed verdict)) }
+    {
+        let bytes = match verdict {
+            Verdict::Passed(ran) => {
+                self.tally.count(true);
+                Vec::from_slice(alloc, ran.out.bytes())?
+            }
+            Verdict::Differs(told) => {
+                self.tally.count(false);
+                let line = format!(in alloc; "{file}: {name}\n{told}")?;
+                self.report.push_str(line.as_str())?;
+                Vec::new(alloc)
+            }
+        };
+        self.outs.push(NamedText { name, bytes })?;
+        Ok(())
+    }
+
+    /// Runs a case and settles it.
+    fn run_case(&mut self, alloc: Global, file: &str, case: Case) -> Result<(), Memory> {
+        let verdict = judge(alloc, self.examples.as_slice(), &case)?;
+        self.settle(alloc, file, case.name, verdict)?;
+        Ok(())
+    }
+
+    /// Runs the cases of a file, one after the other.
+    pub fn run_file(&mut self, alloc: Global, file: &str, text: &str) -> Result<(), Fault> {
+        for part in parts_of(alloc, text)? {
+            let Some(written) = part.read(alloc, file)? else {
+                continue;
+            };
+            let case = match self.case_of(alloc, written) {
+                Ok(case) => case,
+                Err(why) => return Err(part.fault(alloc, file, why)?),
+            };
+            if self.run_case(alloc, file, case).is_err() {
+                return Err(Fault::OutOfMemory);
+            }
+        }
+        Ok(())
+    }
+}
