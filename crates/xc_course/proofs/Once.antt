@@ -17,7 +17,7 @@ use Rattle.xc_ctl.specs.FormulaFiles.{formula_format}
 use Rattle.xc_ctl.specs.Trees.{Signature}
 use Rattle.xc_ctl.proofs.Verdicts.{tables_are_unique, formula_faults_are_unique, formulas_have_no_fault}
 use Rattle.xc_lines.specs.Texts.{text_line, fault_line}
-use Rattle.xc_course.specs.Courses.{Course, Event, Ends, Loading, Outcome, Absent, Refusal, Served, Opens, Reads, always, rest}
+use Rattle.xc_course.specs.Courses.{Course, Event, Ends, Loading, Outcome, Absent, Refusal, Opens, Reads, always, rest}
 use Rattle.xc_course.specs.Courses.Reads.{faulty, accepted}
 use Rattle.xc_course.specs.FileKinds.{FileKind, Lattices, Views, Maps, Formulas, Found, limit_of, ComesOf, Judges, ReadsKind}
 use Rattle.xc_course.specs.Laws.{CoursesEndOnce}

@@ -1,20 +1,20 @@
 -- Two tables that tell the same of a formula have the same block.
-use Rattle.std.proofs.Common.{◌≡◌, ℕ, zero, suc, ◌+◌, ◌-◌, ◌<◌, ◌≤◌, Bool, true, false, ◌&&◌, nat_le, List, [], ◌∷◌, ◌++◌, length, refl, sym, ◌∙◌, ap, subst, arith}
-use Rattle.std.specs.Prelude.{None, Option, codes, count_by, fold, cond}
+use Rattle.std.proofs.Common.{◌≡◌, ℕ, zero, suc, ◌+◌, ◌-◌, ◌<◌, ◌≤◌, Bool, true, false, ◌&&◌, nat_le, List, [], ◌∷◌, ◌++◌, length, refl, ◌∙◌, ap, arith}
+use Rattle.std.specs.Prelude.{Option, codes, count_by, fold, cond}
 use Rattle.std.specs.Fmt.{decimal}
-use Rattle.std.specs.List.{list_all, range_with_len, flat_map, filter, sum}
+use Rattle.std.specs.List.{range_with_len, flat_map, filter}
 use Rattle.xc_base.specs.Names.{name_at}
 use Rattle.std.proofs.lemmas.Bool.{and_parts, leb-true}
 use Rattle.xc_theory.specs.Lattices.{LatticeData}
 use Rattle.xc_theory.proofs.Chains.{heights_are_unique}
 use Rattle.xc_product.specs.Heights.{AreHeights}
-use Rattle.xc_merge.specs.Merges.{Merge, name_of, viewpoint_at, parts_of, names_of_parts}
+use Rattle.xc_merge.specs.Merges.{Merge, name_of, viewpoint_at}
 use Rattle.xc_merge.specs.Projections.{states_of}
 use Rattle.xc_merge.specs.MergedFrames.{merged_frame, initials_of, is_merged_initial}
 use Rattle.xc_ctl.specs.Tables.{is_table, are_ordered_from}
 use Rattle.xc_ctl.specs.Rounds.{RoundsTable}
 use Rattle.xc_ctl.specs.declared.kind.Kind.{Kind}
-use Rattle.xc_report.specs.Reports.{signature_of, line, head_text, formula_text, node_text, value_text, gives, count_text, share_text, values_text, size_text, block_text, blocks_text, report_text}
+use Rattle.xc_report.specs.Reports.{line, formula_text, node_text, value_text, gives, count_text, share_text, values_text, size_text, block_text}
 use Rattle.xc_top.proofs.Tables.{TellSame}
 
 -- what a test of a table says of its nodes

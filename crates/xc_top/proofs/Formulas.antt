@@ -1,9 +1,8 @@
 -- The formulas of a file over what is merged.
-use Rattle.std.proofs.Common.{◌≡◌, ℕ, zero, suc, ◌+◌, ◌-◌, ◌<◌, ◌≤◌, Bool, true, false, ◌&&◌, nat_le, List, [], ◌∷◌, ◌++◌, length, refl, sym, ◌∙◌, ap, subst, arith}
-use Rattle.std.specs.List.{list_all, range_with_len, flat_map, filter, sum}
-use Rattle.xc_theory.specs.Lattices.{LatticeData}
+use Rattle.std.proofs.Common.{◌≡◌, ℕ, true, List, ◌∷◌, length, sym, subst}
+use Rattle.std.specs.List.{list_all}
 use Rattle.xc_alg.specs.Products.{product}
-use Rattle.xc_merge.specs.Merges.{Merge, name_of, viewpoint_at, parts_of, names_of_parts}
+use Rattle.xc_merge.specs.Merges.{Merge, parts_of, names_of_parts}
 use Rattle.xc_theory.specs.Codes.{total}
 use Rattle.xc_base.specs.Formats.{Row, IsAccepted}
 use Rattle.xc_ctl.specs.FormulaFiles.{formula_format}
@@ -11,12 +10,12 @@ use Rattle.xc_ctl.specs.Trees.{sizes_of}
 use Rattle.xc_ctl.proofs.Verdicts.{accepted_are_tables}
 use Rattle.xc_ctl.proofs.Ranges.{tables_in_range}
 use Rattle.xc_ctl.specs.Frames.{IsFrame}
-use Rattle.xc_ctl.specs.Tables.{is_table, is_table_in, are_ordered_from}
+use Rattle.xc_ctl.specs.Tables.{is_table, is_table_in}
 use Rattle.xc_ctl.specs.declared.kind.Kind.{Kind}
-use Rattle.xc_report.specs.Reports.{signature_of, line, head_text, formula_text, node_text, value_text, gives, count_text, share_text, values_text, size_text, block_text, blocks_text, report_text}
+use Rattle.xc_report.specs.Reports.{signature_of}
 use Rattle.xc_report.proofs.Lattices.{names_as_many}
 use Rattle.xc_report.proofs.Framed.{IsGood, merge_is_framed, merge_is_fit}
-use Rattle.xc_top.proofs.Tables.{TellSame, IsFormula, tables_tell_same, some_table}
+use Rattle.xc_top.proofs.Tables.{IsFormula}
 use Rattle.std.proofs.lemmas.Bool.{and_parts}
 use Rattle.xc_merge.specs.MergedFrames.{merged_frame}
 

@@ -5,3 +5,4 @@ pub mod Texts
 pub mod Worded
 pub mod Outcomes
 pub mod Serving
+pub mod Facts

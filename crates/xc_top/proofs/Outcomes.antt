@@ -1,5 +1,5 @@
 -- A request has one outcome over given files, and what is written of it one text.
-use Rattle.std.proofs.Common.{◌≡◌, ◌∙◌, ℕ, List, Option, Some, None, MatchOption, sym, subst}
+use Rattle.std.proofs.Common.{◌≡◌, ◌∙◌, List, Option, Some, None, MatchOption, sym, subst}
 use Rattle.xc_base.specs.declared.shelf.File.{File}
 use Rattle.xc_words.specs.Requests.{request_of}
 use Rattle.xc_words.specs.declared.asked.Request.{Request}
@@ -9,7 +9,7 @@ use Rattle.xc_course.proofs.Existence.{some_end}
 use Rattle.xc_course.proofs.Once.{tree_once}
 use Rattle.xc_top.specs.Laws.{RequestsHaveOutcomes, OutcomesAreUnique, OutcomesHaveTexts, TextsAreUnique}
 use Rattle.xc_top.specs.Requests.{course_of}
-use Rattle.xc_top.proofs.Texts.{AreWorded, one_reply}
+use Rattle.xc_top.proofs.Texts.{one_reply}
 use Rattle.xc_top.proofs.Worded.{IsWorded, course_worded}
 
 pub requests_have_outcomes : RequestsHaveOutcomes

@@ -1,5 +1,5 @@
 -- What serving words comes to, from what the mode that they ask for came to.
-use Rattle.std.proofs.Common.{◌≡◌, ℕ, List, [], ◌∷◌, ◌++◌, Option, Some, None, Result, Ok, Err, MatchOption, IsSome, IfSome, append-nil, ◌⊎◌, inl, inr, refl, sym, ◌∙◌, ap, subst}
+use Rattle.std.proofs.Common.{◌≡◌, ℕ, List, [], ◌∷◌, Option, Some, None, Result, Ok, Err, MatchOption, IsSome, IfSome, append-nil, ◌⊎◌, inl, inr, refl, sym, ap, subst}
 use Rattle.std.specs.Result.{IsErrAnd}
 use Rattle.std.specs.String.{string_bytes}
 use Rattle.xc_base.specs.Shelves.{Told, Shelved}
@@ -7,6 +7,7 @@ use Rattle.xc_base.specs.Sinks.{Sunk, AddsNothing}
 use Rattle.xc_base.specs.declared.shelf.File.{File}
 use Rattle.xc_words.specs.Requests.{request_of, Answers}
 use Rattle.xc_words.specs.declared.asked.Request.{Request}
+use Rattle.xc_words.specs.declared.asked.Request.TheVariants.{Gen}
 use Rattle.xc_words.specs.declared.fault.WordsFault.{WordsFault}
 use Rattle.xc_words.specs.declared.fault.WordsFault.TheVariants as faults
 use Rattle.xc_lines.specs.Halts.{words_halt, passed_status}
@@ -15,16 +16,17 @@ use Rattle.xc_lines.specs.declared.halt.Halt.{Halt}
 use Rattle.xc_lines.specs.declared.halt.Halt.TheVariants.{Words, Refused, ReadFault, WriteFault, Memory}
 use Rattle.xc_lines.specs.declared.passed.Passed.{Passed}
 use Rattle.xc_course.specs.Courses.{Outcome, Absent, Refusal, Served, Ends, Loading, always}
-use Rattle.xc_course.specs.Items.{Item, IsReply, IsPart, IsPartOrReply, Adds}
+use Rattle.xc_course.specs.Items.{Item, IsPartOrReply, Adds}
 use Rattle.xc_course.specs.Items.IsPart.{nothing}
 use Rattle.xc_course.specs.Items.IsReply.{none as reply_none}
 use Rattle.xc_course.specs.Loads.{FailedOnce, KeepsOrFails, TellsSame}
 use Rattle.xc_course.specs.Trees.{Happens}
-use Rattle.xc_course.specs.Works.{CameTo, EndsSo, EndsWith, IsRefusal, IsServed, GetsAll, GetsPart, GetsPartOrAll, Works}
+use Rattle.xc_course.specs.Works.{CameTo, EndsSo, EndsWith, IsRefusal, IsServed, GetsAll, GetsPart, GetsPartOrAll, Works, WorksAlways}
 use Rattle.xc_course.proofs.Once.{tree_once}
+use Rattle.xc_eval.specs.Checking.{GenTree}
 use Rattle.xc_top.specs.Calls.{Comes, GetsAtMost, MayLoad}
-use Rattle.xc_top.specs.Requests.{ComesOfWords, IsOutcome, course_of}
-use Rattle.xc_top.specs.Serving.{IsWorked, NamesLoad, Serves}
+use Rattle.xc_top.specs.Requests.{IsOutcome, course_of}
+use Rattle.xc_top.specs.Serving.{IsWorked, Serves}
 
 some_request : (found : Option Request) (request : Request) → Some request ≡ found → IsSome found
 some_request None request e = cc
@@ -66,7 +68,7 @@ keeps_unasked : (shelf : Shelved) (found : Option Request) → MatchOption found
 keeps_unasked shelf None = refl
 keeps_unasked shelf (Some request) = inl refl
 
-pub not_asked : (words : List (List ℕ)) (shelf : Shelved) (out : Sunk) (fault : WordsFault) → Answers (request_of words) (Err fault) → Serves words shelf shelf out out (Err (words_halt fault))
+not_asked : (words : List (List ℕ)) (shelf : Shelved) (out : Sunk) (fault : WordsFault) → Answers (request_of words) (Err fault) → Serves words shelf shelf out out (Err (words_halt fault))
 not_asked words shelf out faults.Words none = record { worked = (none, refl); kept = refl; files = same_told shelf.told }
 not_asked words shelf out faults.Memory none = record {
   worked = (for_all words shelf.told (GetsAtMost out out) (at_most_none out out refl), λ n. refl, keeps_unasked shelf (request_of words), inl refl, refl);
@@ -123,6 +125,10 @@ pub asked : (words : List (List ℕ)) (request : Request) (shelf shelf_after : S
 asked words request shelf shelf_after out out_after result e h = record { worked = came_asked words request shelf shelf_after out out_after (sym e) result h.came; kept = h.kept; files = h.files }
 
 -- a fault of the words, as `?` hands it on
-pub passed : (words : List (List ℕ)) (shelf shelf_after : Shelved) (out out_after : Sunk) (halt : Halt) (result : Result Passed Halt) → IsErrAnd result (λ e. e ≡ halt) → Serves words shelf shelf_after out out_after (Err halt) → Serves words shelf shelf_after out out_after result
-passed words shelf shelf_after out out_after halt (Ok x) is h = absurd is
-passed words shelf shelf_after out out_after halt (Err other) is h = subst (λ (e : Halt). Serves words shelf shelf_after out out_after (Err e)) (sym is) h
+pub unasked : (words : List (List ℕ)) (shelf : Shelved) (out : Sunk) (fault : WordsFault) (result : Result Passed Halt) → Answers (request_of words) (Err fault) → IsErrAnd result (λ e. e ≡ words_halt fault) → Serves words shelf shelf out out result
+unasked words shelf out fault (Ok x) none is = absurd is
+unasked words shelf out fault (Err other) none is = subst (λ (e : Halt). Serves words shelf shelf out out (Err e)) (sym is) (not_asked words shelf out fault none)
+
+-- generated files, which no shelf is asked for
+pub generated : (request : Request) (number size : ℕ) (now : Shelved) (out out_after : Sunk) (result : Result Passed Halt) → request ≡ Gen number size → WorksAlways (GenTree number size) out out_after result → Works (course_of request) now now out out_after result
+generated request number size now out out_after result is works = subst (λ (r : Request). Works (course_of r) now now out out_after result) (sym is) (works now)

@@ -1,12 +1,10 @@
 -- The items of a report have one text, one behind the other.
-use Rattle.std.proofs.Common.{◌≡◌, ℕ, ◌+◌, ◌≤◌, Bool, true, List, [], ◌∷◌, ◌++◌, length, sum, refl, sym, ◌∙◌, ap}
+use Rattle.std.proofs.Common.{◌≡◌, ℕ, ◌+◌, Bool, List, [], ◌∷◌, ◌++◌, sum, refl, ◌∙◌, ap}
 use Rattle.std.specs.Prelude.{None}
 use Rattle.xc_theory.proofs.Chains.{heights_are_unique}
-use Rattle.xc_product.specs.Heights.{AreHeights}
 use Rattle.xc_lattice.specs.LatticeFiles.{LatticeValue}
 use Rattle.xc_merge.specs.Merges.{Merge, parts_of}
 use Rattle.xc_merge.specs.MergedFrames.{merged_frame}
-use Rattle.xc_ctl.specs.Rounds.{RoundsTable, IsTableFor}
 use Rattle.xc_ctl.specs.declared.kind.Kind.{Kind}
 use Rattle.xc_report.specs.Reports.{head_text, block_text}
 use Rattle.xc_report.proofs.Lattices.{IsNamed, AreNamed, lattice_height, some_heights}

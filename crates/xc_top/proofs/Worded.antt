@@ -1,5 +1,5 @@
 -- Where a request is served, its items have one text.
-use Rattle.std.proofs.Common.{◌≡◌, ◌∙◌, codes, ℕ, ◌+◌, [], ◌∷◌, ◌++◌, length-append, List, Option, Some, None, MatchOption, length, refl, sym, subst, arith, inl, inr, ◌⊎◌}
+use Rattle.std.proofs.Common.{◌≡◌, false, codes, ℕ, ◌+◌, [], ◌∷◌, ◌++◌, length-append, List, Option, Some, None, MatchOption, length, refl, sym, subst, arith, inl, inr}
 use Rattle.std.specs.Option.{option_map}
 use Rattle.std.proofs.lemmas.List.{length-map}
 use Rattle.xc_base.specs.Canonical.{canonical}
@@ -33,13 +33,13 @@ use Rattle.xc_lines.specs.Texts.{text_line, fault_line, broken_line, broken_text
 use Rattle.xc_lines.specs.declared.status.Status.TheVariants.{Done, No}
 use Rattle.xc_course.specs.Courses.{Course, Event, Ends, Loading, Outcome, Absent, Refusal, Served, Opens, Reads, always, rest}
 use Rattle.xc_course.specs.Courses.Reads.{faulty, accepted}
-use Rattle.xc_course.specs.FileKinds.{Lattices, Views, Maps, Formulas, limit_of, ComesOf, Judges, ReadsKind}
+use Rattle.xc_course.specs.FileKinds.{Lattices, Views, Maps, Formulas, limit_of, ComesOf, ReadsKind}
 use Rattle.xc_course.specs.Items.{Fixed, Described}
-use Rattle.xc_course.specs.Trees.{Tree, Open, Over, Refuse, Serve, Happens, Unless, Merges, Within, states_refusal, OnLawful, OpenLattice, OpenViewpoint, OpenViewpoints, files_of}
+use Rattle.xc_course.specs.Trees.{Tree, Open, Over, Serve, Happens, Unless, Merges, Within, states_refusal, OnLawful, OpenLattice, OpenViewpoint, OpenViewpoints, files_of}
 use Rattle.xc_show.specs.Showing.{LatticeTree, Verdicts, ShowTree, Shows}
-use Rattle.xc_eval.specs.Checking.{CheckTree, GenTree, report_items, size_refusal, state_limit}
+use Rattle.xc_eval.specs.Checking.{CheckTree, report_items, size_refusal, state_limit}
 use Rattle.xc_top.specs.Requests.{course_of}
-use Rattle.xc_top.proofs.Formulas.{AreFormulas, good_formulas}
+use Rattle.xc_top.proofs.Formulas.{good_formulas}
 use Rattle.xc_top.proofs.Texts.{AreWorded, fixed_text, described_text, report_is_worded}
 
 -- the items of a served outcome have one text each

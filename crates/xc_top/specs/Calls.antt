@@ -1,7 +1,7 @@
 -- What a call of `run` does, in eight parts. Outcomes are spoken of where the shelf tells its files, and the bytes of out and err
 -- where these tell them.
-use Rattle.std.specs.Prelude.{◌≡◌, ◌≢◌, ◌⊎◌, ℕ, Bool, true, false, List, Option, None, IfSome, MatchOption}
-use Rattle.xc_base.specs.Shelves.{Told, Shelved, HasRisen, has_risen}
+use Rattle.std.specs.Prelude.{◌≡◌, ◌≢◌, ◌⊎◌, ℕ, Bool, true, false, List, None, IfSome, MatchOption}
+use Rattle.xc_base.specs.Shelves.{Shelved, HasRisen, has_risen}
 use Rattle.xc_base.specs.Sinks.{Sunk, AddsWhole, AddsFront, AddsNothing, IsCalm}
 use Rattle.xc_base.specs.declared.shelf.File.{File}
 use Rattle.xc_words.specs.Requests.{request_of}

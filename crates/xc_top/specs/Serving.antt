@@ -1,5 +1,5 @@
 -- What serving words did, as the parts of a call rest on it.
-use Rattle.std.specs.Prelude.{◌≡◌, ◌⊎◌, ℕ, List, Option, None, IsSome, MatchOption, Result, Ok, Err}
+use Rattle.std.specs.Prelude.{◌≡◌, ◌⊎◌, ℕ, List, None, IsSome, MatchOption, Result, Ok, Err}
 use Rattle.std.specs.String.{string_bytes}
 use Rattle.xc_base.specs.Shelves.{Shelved, HasRisen}
 use Rattle.xc_base.specs.Sinks.{Sunk, AddsNothing, IsCalm}

@@ -32,7 +32,7 @@ fn dispatch<S: Shelf, W: Sink>(
 }
 
 /// Reads what the words ask for, and does it.
-#[tactic(auto, using(crate::proofs::Serving::asked))]
+#[tactic(auto, using(crate::proofs::Serving::asked, crate::proofs::Serving::unasked))]
 fn serve<S: Shelf, W: Sink>(
     alloc: Global,
     words: &Vec<String>,
