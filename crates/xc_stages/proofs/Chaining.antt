@@ -6,7 +6,8 @@ use Rattle.std.specs.declared.alloc.Global.{Global}
 use Rattle.std.specs.declared.string.String.{String}
 use Rattle.std.proofs.lemmas.List.{map-append}
 use Rattle.xc_base.specs.Shelves.{Shelved}
-use Rattle.xc_lattice.specs.LatticeFiles.{LatticeValue, Unlawful, Lawful}
+use Rattle.xc_lattice.specs.LatticeFiles.{LatticeValue}
+use Rattle.xc_lattice.specs.Values.{value_of as lattice_of}
 use Rattle.xc_lattice.specs.declared.law.Law.{Law}
 use Rattle.xc_lattice.specs.declared.lattice.Lattice.{Lattice}
 use Rattle.xc_view.specs.ViewFiles.{ViewValue}
@@ -21,23 +22,27 @@ use Rattle.xc_course.specs.FileKinds.{Lattices, Views}
 use Rattle.xc_course.specs.Trees.{Tree, Open, OnLawful, OpenLattice, OpenViewpoint, OpenViewpoints}
 use Rattle.xc_course.specs.Works.{GoesOn, Stops, Works}
 use Rattle.xc_course.proofs.Working.{passed_on, refuses, wants}
-use Rattle.xc_stages.specs.Loaded.{OpensOn}
+use Rattle.xc_stages.specs.Loaded.{OpensOn, verdict_of}
+use Rattle.xc_stages.specs.declared.lattices.Judged.{Judged}
+use Rattle.xc_stages.specs.declared.lattices.Judged.TheVariants.{Broken, Lawful}
 
--- a lattice that breaks no law
+-- a lattice, by the verdict on its file
 module _ (name : List ℕ) (before now : Shelved) where
-  pub lawful_on : (l : LatticeValue) → GoesOn (Open Lattices name) before now (Lawful l) → GoesOn (OpenLattice name) before now l
-  lawful_on l judged = λ next after out out_after result h. judged (OnLawful name next) after out out_after result h
-
   pub lattice_halts : {X : Type 0} (result : Result X Halt) (halt : Halt) → IsErrAnd result (λ e. e ≡ halt) → Stops (Open Lattices name) before now halt → IfErr result (Stops (OpenLattice name) before now)
   lattice_halts result halt passed stopped = passed_on (Stops (OpenLattice name) before now) result halt passed (λ next out. stopped (OnLawful name next) out)
 
-  -- and one that breaks a law
-  module _ (law : Law) (names : List (List ℕ)) (judged : GoesOn (Open Lattices name) before now (Unlawful law names)) where
-    pub broken_stops : (line : String Global) → string_bytes line ≡ broken_line name law names → Stops (OpenLattice name) before now (Refused line)
-    broken_stops line is = λ next out. judged (OnLawful name next) now out out (Err (Refused line)) (refuses (broken_line name law names) now out line is)
+  module _ (judged : Judged) (found : GoesOn (Open Lattices name) before now (verdict_of judged)) where
+    -- one that breaks no law
+    pub lawful_on : (l : Lattice) → judged ≡ Lawful l → GoesOn (OpenLattice name) before now (lattice_of l)
+    lawful_on l is = λ next after out out_after result h. found (OnLawful name next) after out out_after result (subst (λ (j : Judged). Works (OnLawful name next (verdict_of j)) now after out out_after result) (sym is) h)
 
-    pub broken_wants : {X : Type 0} (result : Result X Halt) → IsErrAnd result (λ e. e ≡ Memory) → IfErr result (Stops (OpenLattice name) before now)
-    broken_wants result passed = passed_on (Stops (OpenLattice name) before now) result Memory passed (λ next out. judged (OnLawful name next) now out out (Err Memory) (wants (OnLawful name next (Unlawful law names)) now out))
+    -- and one that breaks a law
+    pub broken_stops : (law : Law) (names : List (List ℕ)) (line : String Global) → judged ≡ Broken law names → string_bytes line ≡ broken_line name law names → Stops (OpenLattice name) before now (Refused line)
+    broken_stops law names line is told = λ next out. found (OnLawful name next) now out out (Err (Refused line))
+        (subst (λ (j : Judged). Works (OnLawful name next (verdict_of j)) now now out out (Err (Refused line))) (sym is) (refuses (broken_line name law names) now out line told))
+
+    pub judged_wants : {X : Type 0} (result : Result X Halt) → IsErrAnd result (λ e. e ≡ Memory) → IfErr result (Stops (OpenLattice name) before now)
+    judged_wants result passed = passed_on (Stops (OpenLattice name) before now) result Memory passed (λ next out. found (OnLawful name next) now out out (Err Memory) (wants (OnLawful name next (verdict_of judged)) now out))
 
 -- a viewpoint: the file of its view
 module _ (file : List ℕ) (before : Shelved) where

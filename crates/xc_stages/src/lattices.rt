@@ -41,6 +41,7 @@ fn read_lattice(alloc: Global, name: &str, lines: &Lines) -> Result<Judged, Halt
 }
 
 /// The verdict on the lattice in a file of these bytes.
+#[tactic(auto, using(crate::proofs::Reading::read_found, crate::proofs::Reading::not_found, crate::proofs::Reading::not_cut))]
 fn lattice_in(alloc: Global, name: &str, bytes: &[u8]) -> Result<Judged, Halt>
     ensures read { IfOk result (IsRead IsVerdictOf FILE_LIMIT bytes.now) }
     ensures stopped { IfErr result (IsUnread (IsFaultRefusal lattice_format name.now) FILE_LIMIT name.now bytes.now) }
