@@ -59,6 +59,7 @@ fn read_formulas(
 }
 
 /// The formulas in a file of these bytes.
+#[tactic(auto, using(crate::proofs::Reading::read_found, crate::proofs::Reading::not_found, crate::proofs::Reading::not_cut))]
 fn formulas_in(
     alloc: Global,
     machine: &Machine,

@@ -29,6 +29,7 @@ fn read_map(alloc: Global, name: &str, lines: &Lines) -> Result<SigMap, Halt>
 }
 
 /// The map in a file of these bytes.
+#[tactic(auto, using(crate::proofs::Reading::read_found, crate::proofs::Reading::not_found, crate::proofs::Reading::not_cut))]
 fn map_in(alloc: Global, name: &str, bytes: &[u8]) -> Result<SigMap, Halt>
     ensures read { IfOk result (λ x. IsRead (IsAccepted map_format) FILE_LIMIT bytes.now (map_of x)) }
     ensures stopped { IfErr result (IsUnread (IsFaultRefusal map_format name.now) FILE_LIMIT name.now bytes.now) }

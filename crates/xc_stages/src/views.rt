@@ -29,6 +29,7 @@ fn read_view(alloc: Global, name: &str, lines: &Lines) -> Result<View, Halt>
 }
 
 /// The view in a file of these bytes.
+#[tactic(auto, using(crate::proofs::Reading::read_found, crate::proofs::Reading::not_found, crate::proofs::Reading::not_cut))]
 fn view_in(alloc: Global, name: &str, bytes: &[u8]) -> Result<View, Halt>
     ensures read { IfOk result (λ x. IsRead (IsAccepted view_format) FILE_LIMIT bytes.now (view_of x)) }
     ensures stopped { IfErr result (IsUnread (IsFaultRefusal view_format name.now) FILE_LIMIT name.now bytes.now) }
