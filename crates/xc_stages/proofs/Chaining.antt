@@ -94,20 +94,23 @@ module _ (uses : List Use) (i : ℕ) (views : List (View × Lattice)) (before mi
               (subst (λ (ps : List Viewpoint). Works (OpenViewpoints (drop (i + 1) (map file_of uses)) ps next) now after out out_after result) all h))));
         }
 
-    -- it was not
-    pub one_stopped : {X : Type 0} (result : Result X Halt) (halt : Halt) → IsErrAnd result (λ e. e ≡ halt) → Stops (OpenViewpoint name) mid now halt → IfErr result (Stops (OpenViewpoints (map file_of uses) []) before now)
-    one_stopped result halt passed stopped =
-        let behind : (List Viewpoint → Tree) → Viewpoint → Tree = λ next q. OpenViewpoints (drop (i + 1) (map file_of uses)) (map viewpoint_of views ++ q ∷ []) next in
-        passed_on (Stops (OpenViewpoints (map file_of uses) []) before now) result halt passed (λ next out. so_far.by next now out out (Err halt)
-        (subst (λ (left : List (List ℕ)). Works (OpenViewpoints left (map viewpoint_of views) next) mid now out out (Err halt)) (sym (files_left uses i u low is))
-        (subst (λ (n : List ℕ). Works (OpenViewpoint n (behind next)) mid now out out (Err halt)) named (stopped (behind next) out))))
+    module _ (all : List Use) (same : uses ≡ all) where
+      -- it was not
+      pub one_stopped : {X : Type 0} (result : Result X Halt) (halt : Halt) → IsErrAnd result (λ e. e ≡ halt) → Stops (OpenViewpoint name) mid now halt → IfErr result (Stops (OpenViewpoints (map file_of all) []) before now)
+      one_stopped result halt passed stopped =
+          let behind : (List Viewpoint → Tree) → Viewpoint → Tree = λ next q. OpenViewpoints (drop (i + 1) (map file_of uses)) (map viewpoint_of views ++ q ∷ []) next in
+          let of_all : OpensOn (map file_of all) (drop i (map file_of uses)) (map viewpoint_of views) before mid = subst (λ (us : List Use). OpensOn (map file_of us) (drop i (map file_of uses)) (map viewpoint_of views) before mid) same so_far in
+          passed_on (Stops (OpenViewpoints (map file_of all) []) before now) result halt passed (λ next out. of_all.by next now out out (Err halt)
+          (subst (λ (left : List (List ℕ)). Works (OpenViewpoints left (map viewpoint_of views) next) mid now out out (Err halt)) (sym (files_left uses i u low is))
+          (subst (λ (n : List ℕ). Works (OpenViewpoint n (behind next)) mid now out out (Err halt)) named (stopped (behind next) out))))
 
-    -- it was, and there is no memory for it
-    pub one_wants : {X : Type 0} (p : View × Lattice) (result : Result X Halt) → IsErrAnd result (λ e. e ≡ Memory) → GoesOn (OpenViewpoint name) mid now (viewpoint_of p) → IfErr result (Stops (OpenViewpoints (map file_of uses) []) before now)
-    one_wants p result passed found =
-        let more : List (View × Lattice) = views ++ p ∷ [] in
-        passed_on (Stops (OpenViewpoints (map file_of uses) []) before now) result Memory passed (λ next out. (one_opened p more found refl).by next now out out (Err Memory)
-        (wants (OpenViewpoints (drop (i + 1) (map file_of uses)) (map viewpoint_of more) next) now out))
+      -- it was, and there is no memory for it
+      pub one_wants : {X : Type 0} (p : View × Lattice) (result : Result X Halt) → IsErrAnd result (λ e. e ≡ Memory) → GoesOn (OpenViewpoint name) mid now (viewpoint_of p) → IfErr result (Stops (OpenViewpoints (map file_of all) []) before now)
+      one_wants p result passed found =
+          let more : List (View × Lattice) = views ++ p ∷ [] in
+          let left : List (List ℕ) = drop (i + 1) (map file_of uses) in
+          let of_all : OpensOn (map file_of all) left (map viewpoint_of more) before now = subst (λ (us : List Use). OpensOn (map file_of us) left (map viewpoint_of more) before now) same (one_opened p more found refl) in
+          passed_on (Stops (OpenViewpoints (map file_of all) []) before now) result Memory passed (λ next out. of_all.by next now out out (Err Memory) (wants (OpenViewpoints left (map viewpoint_of more) next) now out))
 
   -- no file is left
   pub all_opened : (all : List Use) → uses ≡ all → length uses ≤ i → GoesOn (OpenViewpoints (map file_of all) []) before mid (map viewpoint_of views)
