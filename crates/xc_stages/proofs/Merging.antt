@@ -63,5 +63,8 @@ within_goes_on most m few = λ now next after out out_after result h. goes_unles
 many_states : (most : ℕ) (m : Merge) → most < states_of m.plan → states_refusal most m ≡ Some (states_line (states_of m.plan))
 many_states most m many = rw (lt-ltb most (states_of m.plan) many)
 
-pub within_stops : (most : ℕ) (m : Merge) (line : String Global) → most < states_of m.plan → string_bytes line ≡ states_line (states_of m.plan) → StopsAlways (Within most m) (Refused line)
-within_stops most m line many is = λ now next out. stops_unless (states_refusal most m) (next tt) (states_line (states_of m.plan)) now out line (many_states most m many) is
+pub within_stops : (most count : ℕ) (m : Merge) (line : String Global) → count ≡ states_of m.plan → most < count → string_bytes line ≡ states_line count → StopsAlways (Within most m) (Refused line)
+within_stops most count m line counted many is = λ now next out.
+    let more : most < states_of m.plan = subst (λ (n : ℕ). most < n) counted many in
+    let told : string_bytes line ≡ states_line (states_of m.plan) = subst (λ (n : ℕ). string_bytes line ≡ states_line n) counted is in
+    stops_unless (states_refusal most m) (next tt) (states_line (states_of m.plan)) now out line (many_states most m more) told
