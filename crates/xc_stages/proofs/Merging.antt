@@ -1,11 +1,10 @@
 -- The stages that load nothing: the merge, and the limit of states.
-use Rattle.std.proofs.Common.{◌≡◌, ℕ, ◌<◌, ◌≤◌, List, Option, Some, None, sym, ap, subst, cond, arith}
+use Rattle.std.proofs.Common.{◌≡◌, ℕ, ◌<◌, ◌≤◌, List, Some, None, ap, subst, arith}
 use Rattle.std.specs.Option.{option_map}
 use Rattle.std.specs.String.{string_bytes}
 use Rattle.std.specs.declared.alloc.Global.{Global}
 use Rattle.std.specs.declared.string.String.{String}
 use Rattle.std.proofs.lemmas.Bool.{lt-ltb}
-use Rattle.xc_base.specs.Shelves.{Shelved}
 use Rattle.xc_sigmap.specs.MapFiles.{MapValue}
 use Rattle.xc_merge.specs.Merges.{Merge, Viewpoint}
 use Rattle.xc_merge.specs.Faults.{merge_fault, IsRefusal}
@@ -15,9 +14,8 @@ use Rattle.xc_merge.specs.declared.fault.MergeFault.TheVariants.{UnknownValue, U
 use Rattle.xc_merge.specs.declared.fault.MergeFault.TheVariants as faults
 use Rattle.xc_lines.specs.Refusals.{IsMergeLine}
 use Rattle.xc_lines.specs.Texts.{merge_line, states_line}
-use Rattle.xc_lines.specs.declared.halt.Halt.{Halt}
 use Rattle.xc_lines.specs.declared.halt.Halt.TheVariants.{Refused, Memory}
-use Rattle.xc_course.specs.Trees.{Tree, Merges, Within, states_refusal}
+use Rattle.xc_course.specs.Trees.{Merges, Within, states_refusal}
 use Rattle.xc_course.specs.Works.{GoesOnAlways, StopsAlways, Works}
 use Rattle.xc_course.proofs.Working.{goes_unless, stops_unless, wants}
 
