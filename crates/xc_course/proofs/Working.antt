@@ -37,31 +37,31 @@ ends_always P shelf o comes = (record { moments = some_moments; ended = comes so
 -- Where the ends of a course over a shelf are those of another over an earlier one, and so are its failed loads, what the one came to
 -- the other came to.
 module _
-  (P Q : Course) (before shelf shelf_after : Shelved)
-  (ends : (o : Outcome) → EndsWith P shelf o → EndsWith Q before o)
-  (fails : (S : List ℕ → Type 0) → FailedOnce P shelf shelf_after S → FailedOnce Q before shelf_after S)
-  (same : shelf_after.told ≡ shelf.told → shelf_after.told ≡ before.told)
-  (risen : HasRisen shelf.faults shelf_after.faults → HasRisen before.faults shelf_after.faults)
+    (P Q : Course) (before shelf shelf_after : Shelved)
+    (ends : (o : Outcome) → EndsWith P shelf o → EndsWith Q before o)
+    (fails : (S : List ℕ → Type 0) → FailedOnce P shelf shelf_after S → FailedOnce Q before shelf_after S)
+    (same : shelf_after.told ≡ shelf.told → shelf_after.told ≡ before.told)
+    (risen : HasRisen shelf.faults shelf_after.faults → HasRisen before.faults shelf_after.faults)
   where
-  ends_so : (S : Outcome → Type 0) → EndsSo P shelf S → EndsSo Q before S
-  ends_so S h = record { outcome = h.outcome; ends = ends h.outcome h.ends; holds = h.holds }
+    ends_so : (S : Outcome → Type 0) → EndsSo P shelf S → EndsSo Q before S
+    ends_so S h = record { outcome = h.outcome; ends = ends h.outcome h.ends; holds = h.holds }
 
-  keeps : KeepsOrFails P shelf shelf_after → KeepsOrFails Q before shelf_after
-  keeps (inl stays) = inl (same stays)
-  keeps (inr h) = inr (fails (λ name. Unit {0}) h)
+    keeps : KeepsOrFails P shelf shelf_after → KeepsOrFails Q before shelf_after
+    keeps (inl stays) = inl (same stays)
+    keeps (inr h) = inr (fails (λ name. Unit {0}) h)
 
-  wrote : (out out_after : Sunk) → (AddsNothing out.bytes out_after.bytes ⊎ EndsSo P shelf (IsServed (λ status items. GetsPartOrAll out out_after items)))
-      → AddsNothing out.bytes out_after.bytes ⊎ EndsSo Q before (IsServed (λ status items. GetsPartOrAll out out_after items))
-  wrote out out_after (inl none) = inl none
-  wrote out out_after (inr h) = inr (ends_so (IsServed (λ status items. GetsPartOrAll out out_after items)) h)
+    wrote : (out out_after : Sunk) → (AddsNothing out.bytes out_after.bytes ⊎ EndsSo P shelf (IsServed (λ status items. GetsPartOrAll out out_after items)))
+        → AddsNothing out.bytes out_after.bytes ⊎ EndsSo Q before (IsServed (λ status items. GetsPartOrAll out out_after items))
+    wrote out out_after (inl none) = inl none
+    wrote out out_after (inr h) = inr (ends_so (IsServed (λ status items. GetsPartOrAll out out_after items)) h)
 
-  pub came_as : (out out_after : Sunk) (result : Result Passed Halt) → CameTo P shelf shelf_after out out_after result → CameTo Q before shelf_after out out_after result
-  came_as out out_after (Ok passed) h = (ends_so (IsServed (λ status items. (status ≡ passed_status passed) × GetsAll out out_after items)) h.0, h.1)
-  came_as out out_after (Err (Refused line)) h = (ends (Refusal (string_bytes line)) h.0, h.1)
-  came_as out out_after (Err (ReadFault line)) h = (fails (λ name. string_bytes line ≡ read_line name) h.0, risen h.1, h.2)
-  came_as out out_after (Err WriteFault) h = (ends_so (IsServed (λ status items. GetsPart out out_after items)) h.0, h.1)
-  came_as out out_after (Err Memory) h = (keeps h.0, wrote out out_after h.1, h.2)
-  came_as out out_after (Err Words) h = h
+    pub came_as : (out out_after : Sunk) (result : Result Passed Halt) → CameTo P shelf shelf_after out out_after result → CameTo Q before shelf_after out out_after result
+    came_as out out_after (Ok passed) h = (ends_so (IsServed (λ status items. (status ≡ passed_status passed) × GetsAll out out_after items)) h.0, h.1)
+    came_as out out_after (Err (Refused line)) h = (ends (Refusal (string_bytes line)) h.0, h.1)
+    came_as out out_after (Err (ReadFault line)) h = (fails (λ name. string_bytes line ≡ read_line name) h.0, risen h.1, h.2)
+    came_as out out_after (Err WriteFault) h = (ends_so (IsServed (λ status items. GetsPart out out_after items)) h.0, h.1)
+    came_as out out_after (Err Memory) h = (keeps h.0, wrote out out_after h.1, h.2)
+    came_as out out_after (Err Words) h = h
 
 -- where one course is another
 module _ (P Q : Course) (f : (m : ℕ → List File) (e : Event) → P m e → Q m e) (shelf shelf_after : Shelved) where

@@ -1,5 +1,5 @@
 -- What a load and a cut come to, and what comes behind them.
-use Rattle.std.proofs.Common.{◌≡◌, refl, ℕ, zero, suc, ◌+◌, ◌<◌, ◌≤◌, List, [], ◌∷◌, ◌++◌, Option, Some, None, Result, Ok, Err, MatchOption, IfSome, cond, length, take, sym, ap, subst, arith, inl, inr, ◌⊎◌}
+use Rattle.std.proofs.Common.{◌≡◌, refl, ℕ, zero, suc, ◌+◌, ◌<◌, ◌≤◌, List, [], ◌∷◌, ◌++◌, Option, Some, None, Result, Err, MatchOption, IfSome, cond, length, take, sym, ap, subst, arith, inl, inr, ◌⊎◌}
 use Rattle.std.specs.Option.{option_map}
 use Rattle.std.specs.String.{string_bytes}
 use Rattle.std.proofs.lemmas.Bool.{lt-ltb}
@@ -14,11 +14,11 @@ use Rattle.xc_base.specs.declared.fault.TextFault.TheVariants.{LongFile}
 use Rattle.xc_base.specs.Shelves.{Told, Shelved, IsLoaded, IsAbsentIfSteady, held}
 use Rattle.xc_base.specs.Sinks.{Sunk}
 use Rattle.xc_base.specs.declared.shelf.File.{File}
-use Rattle.xc_lines.specs.Texts.{text_line, read_line}
+use Rattle.xc_lines.specs.Texts.{text_line}
 use Rattle.xc_lines.specs.declared.halt.Halt.{Halt}
 use Rattle.xc_lines.specs.declared.halt.Halt.TheVariants.{Words, Refused, ReadFault, WriteFault, Memory}
 use Rattle.xc_lines.specs.declared.passed.Passed.{Passed}
-use Rattle.xc_course.specs.Courses.{Course, Event, Ends, Loading, Outcome, Absent, Refusal, always, rest, Cuts, Opens}
+use Rattle.xc_course.specs.Courses.{Course, Event, Ends, Loading, Outcome, Absent, Refusal, always, Cuts, Opens}
 use Rattle.xc_course.specs.Loads.{FailedOnce, KeepsOrFails}
 use Rattle.xc_course.specs.Works.{CameTo, EndsWith}
 use Rattle.xc_course.proofs.Working.{some_moments, ends_always, came_as, came_by, came_before}

@@ -1,11 +1,10 @@
 -- The stages that load nothing: the merge, and the limit of states.
-use Rattle.std.proofs.Common.{◌≡◌, ℕ, ◌<◌, ◌≤◌, List, Option, Some, None, sym, ap, subst, cond, arith}
+use Rattle.std.proofs.Common.{◌≡◌, ℕ, ◌<◌, ◌≤◌, List, Some, None, ap, subst, arith}
 use Rattle.std.specs.Option.{option_map}
 use Rattle.std.specs.String.{string_bytes}
 use Rattle.std.specs.declared.alloc.Global.{Global}
 use Rattle.std.specs.declared.string.String.{String}
 use Rattle.std.proofs.lemmas.Bool.{lt-ltb}
-use Rattle.xc_base.specs.Shelves.{Shelved}
 use Rattle.xc_sigmap.specs.MapFiles.{MapValue}
 use Rattle.xc_merge.specs.Merges.{Merge, Viewpoint}
 use Rattle.xc_merge.specs.Faults.{merge_fault, IsRefusal}
@@ -15,9 +14,8 @@ use Rattle.xc_merge.specs.declared.fault.MergeFault.TheVariants.{UnknownValue, U
 use Rattle.xc_merge.specs.declared.fault.MergeFault.TheVariants as faults
 use Rattle.xc_lines.specs.Refusals.{IsMergeLine}
 use Rattle.xc_lines.specs.Texts.{merge_line, states_line}
-use Rattle.xc_lines.specs.declared.halt.Halt.{Halt}
 use Rattle.xc_lines.specs.declared.halt.Halt.TheVariants.{Refused, Memory}
-use Rattle.xc_course.specs.Trees.{Tree, Merges, Within, states_refusal}
+use Rattle.xc_course.specs.Trees.{Merges, Within, states_refusal}
 use Rattle.xc_course.specs.Works.{GoesOnAlways, StopsAlways, Works}
 use Rattle.xc_course.proofs.Working.{goes_unless, stops_unless, wants}
 
@@ -63,5 +61,8 @@ within_goes_on most m few = λ now next after out out_after result h. goes_unles
 many_states : (most : ℕ) (m : Merge) → most < states_of m.plan → states_refusal most m ≡ Some (states_line (states_of m.plan))
 many_states most m many = rw (lt-ltb most (states_of m.plan) many)
 
-pub within_stops : (most : ℕ) (m : Merge) (line : String Global) → most < states_of m.plan → string_bytes line ≡ states_line (states_of m.plan) → StopsAlways (Within most m) (Refused line)
-within_stops most m line many is = λ now next out. stops_unless (states_refusal most m) (next tt) (states_line (states_of m.plan)) now out line (many_states most m many) is
+pub within_stops : (most count : ℕ) (m : Merge) (line : String Global) → count ≡ states_of m.plan → most < count → string_bytes line ≡ states_line count → StopsAlways (Within most m) (Refused line)
+within_stops most count m line counted many is = λ now next out.
+    let more : most < states_of m.plan = subst (λ (n : ℕ). most < n) counted many in
+    let told : string_bytes line ≡ states_line (states_of m.plan) = subst (λ (n : ℕ). string_bytes line ≡ states_line n) counted is in
+    stops_unless (states_refusal most m) (next tt) (states_line (states_of m.plan)) now out line (many_states most m more) told

@@ -1,7 +1,7 @@
 -- The stages that open a file: what comes of a course that begins with one.
 use Rattle.std.proofs.Common.{◌≡◌, ℕ, List, Result, Ok, Err, IfOk, IfErr, None, ap}
 use Rattle.std.specs.Result.{IsErrAnd}
-use Rattle.xc_base.specs.Formats.{Row, Format, IsAccepted}
+use Rattle.xc_base.specs.Formats.{Row, IsAccepted}
 use Rattle.xc_base.specs.Lines.{text_rows}
 use Rattle.xc_base.specs.Shelves.{Shelved, IsLoaded}
 use Rattle.xc_base.specs.Text.{text_fault}

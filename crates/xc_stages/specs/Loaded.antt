@@ -1,5 +1,5 @@
 -- Files that were loaded, cut and read, and what stops this.
-use Rattle.std.specs.Prelude.{◌≡◌, ◌≤◌, ◌⊎◌, ℕ, List, [], ◌∷◌, ◌++◌, Option, None, option_map, MatchOption, Result}
+use Rattle.std.specs.Prelude.{◌≡◌, ◌≤◌, ◌⊎◌, ℕ, List, [], ◌∷◌, ◌++◌, None, option_map, MatchOption, Result}
 use Rattle.std.specs.String.{string_bytes}
 use Rattle.xc_base.specs.Formats.{Row, Format, IsFirstFault}
 use Rattle.xc_base.specs.Lines.{text_rows}

@@ -60,12 +60,7 @@ fn read_formulas(
 
 /// The formulas in a file of these bytes.
 #[tactic(auto, using(crate::proofs::Reading::read_found, crate::proofs::Reading::not_found, crate::proofs::Reading::not_cut))]
-fn formulas_in(
-    alloc: Global,
-    machine: &Machine,
-    name: &str,
-    bytes: &[u8],
-) -> Result<Formulas, Halt>
+fn formulas_in(alloc: Global, machine: &Machine, name: &str, bytes: &[u8]) -> Result<Formulas, Halt>
     ensures read { IfOk result (λ fs. IsRead (IsAccepted (formula_format (signature_of (merge_of machine.now)))) FILE_LIMIT bytes.now (nodes_in fs)) }
     ensures given { IfOk result (λ fs. AreGiven (merge_of machine.now) (nodes_in fs)) }
     ensures stopped { IfErr result (IsUnread (IsFaultRefusal (formula_format (signature_of (merge_of machine.now))) name.now) FILE_LIMIT name.now bytes.now) }

@@ -19,10 +19,7 @@ use xc_lines::{Halt, refused_broken, refused_file};
 #[derive(Drop)]
 pub enum Judged {
     /// It breaks a law, first by these elements.
-    Broken {
-        law: Law,
-        elements: List<Word>,
-    },
+    Broken { law: Law, elements: List<Word> },
     /// It breaks none.
     Lawful(Lattice),
 }

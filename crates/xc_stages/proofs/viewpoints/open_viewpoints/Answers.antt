@@ -1,7 +1,5 @@
-use Rattle.std.proofs.Common.{rules, ◌≡◌, ℕ, ◌+◌, List, length, ◌∙◌, ap, arith, length-append, [], ◌∷◌, ◌++◌}
+use Rattle.std.proofs.Common.{rules, ◌≡◌, length, ◌∙◌, ap, arith, length-append, [], ◌∷◌}
 use Rattle.xc_sigmap.specs.Maps.{value_of as map_of}
-use Rattle.xc_sigmap.specs.declared.parts.Use.{Use}
-use Rattle.xc_merge.specs.Merging.{viewpoint_of}
 use Rattle.xc_stages.proofs.Chaining.{one_opened, one_stopped, one_wants, all_opened}
 use Rattle.xc_stages.proofs.viewpoints.open_viewpoints.Goals as goal
 
@@ -21,8 +19,7 @@ returns-in_err-push-clause-stops g c =
 
 pub loop-used-preserved : goal.loop-used-preserved
 loop-used-preserved g c =
-    let file : c.as_str.result.now ≡ c.used-item.result.file = search rules in
-    (
+    let file : c.as_str.result.now ≡ c.used-item.result.file = search rules in (
       omega (arith, ap (λ vs. length vs) c.in_ok-push.ensures.ok ∙ length-append c.loop-used.views (c.in_ok-viewpoint.viewpoint ∷ []), c.loop-used.invariant.0),
       one_opened c.as_slice-used-items.result.now c.loop-used.used-index c.loop-used.views (g.S.Shelf.seen c.args.shelf.now) (g.S.Shelf.seen c.loop-used.shelf) c.loop-used.invariant.1
           c.used-item.result c.as_str.result.now (g.S.Shelf.seen c.open_viewpoint.new.shelf) c.loop-used-test.true c.used-item.is file
