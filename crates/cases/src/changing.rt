@@ -112,11 +112,12 @@ fn inserted(alloc: Global, text: &[u8], line: &str, after: &str) -> Result<Vec<u
 }
 
 /// The text without a line.
+#[tactic(auto, using(std::proofs::lemmas::List::drop_min))]
 fn removed(alloc: Global, text: &[u8], line: &str) -> Result<Vec<u8>, Why>
     ensures { IfOk result (λ v. (at : ℕ) × IsOnlyLineAt text.now line.now at × (v.items ≡ spliced text.now at (at + length line.now + 1) [])) }
 {
     let at = place_of(alloc, text, line)?;
-    let end = text.len().min(at + line.len() + 1);
+    let end = (at + line.len() + 1).min(text.len());
     Ok(spliced(alloc, text, at, end, b"")?)
 }
 

@@ -31,32 +31,32 @@ const EXAMPLES: &str = "examples";
 const CASES: &str = "cases";
 
 /// Runs all cases of all files.
-fn run_all<R: Files + AllocGlobal + Clone + Drop>(rt: &R) -> Result<Suite, Fault> {
-    let alloc = rt.alloc();
-    let mut suite = Suite::new(alloc, files_in(rt, EXAMPLES)?);
+fn run_all<R: Files + AllocGlobal + Clone + Drop>(rt: &R, suite: &mut Suite) -> Result<(), Fault> {
+    suite.set_examples(files_in(rt, EXAMPLES)?);
     for file in files_in(rt, CASES)? {
         match std::str::from_utf8(file.bytes.as_slice()) {
-            Ok(text) => suite.run_file(alloc, file.name.as_str(), text)?,
+            Ok(text) => suite.run_file(rt.alloc(), file.name.as_str(), text)?,
             Err(_) => return Err(Fault::Unreadable(file.name)),
         }
     }
-    Ok(suite)
+    Ok(())
 }
 
 fn main(rt: HostRuntime) -> io::Result<ExitCode> {
-    match run_all(&rt) {
-        Ok(suite) => {
-            let (tally, report) = (suite.tally(), suite.report());
-            println!(rt; "{report}{tally}")?;
-            if tally.is_good() {
-                Ok(ExitCode::SUCCESS)
-            } else {
-                Ok(ExitCode::FAILURE)
-            }
-        }
+    let mut suite = Suite::new(rt.alloc());
+    let ended = run_all(&rt, &mut suite);
+    let (tally, report) = (suite.tally(), suite.report());
+    print!(rt; "{report}")?;
+    match ended {
+        Ok(()) => println!(rt; "{tally}")?,
         Err(fault) => {
             println!(rt; "{fault}")?;
-            Ok(ExitCode::FAILURE)
+            return Ok(ExitCode::FAILURE);
         }
+    }
+    if tally.is_good() {
+        Ok(ExitCode::SUCCESS)
+    } else {
+        Ok(ExitCode::FAILURE)
     }
 }

@@ -23,14 +23,19 @@ impl Suite {
     ghost use Rattle.cases.specs.Tallies.{counted};
     ghost use Rattle.cases.specs.Verdicts.{has_passed};
 
-    /// A suite of which no case was run.
-    pub fn new(alloc: Global, examples: Vec<NamedText>) -> Suite {
+    /// A suite without example files, of which no case was run.
+    pub fn new(alloc: Global) -> Suite {
         Suite {
-            examples,
+            examples: Vec::new(alloc),
             outs: Vec::new(alloc),
             tally: Tally::new(),
             report: String::new(alloc),
         }
+    }
+
+    /// Puts these example files on the shelf of each case.
+    pub fn set_examples(&mut self, examples: Vec<NamedText>) {
+        self.examples = examples;
     }
 
     /// How many cases passed and failed.
