@@ -1,5 +1,5 @@
 -- Courses of work over files: what each load finds, and how a course may end.
-use Rattle.std.specs.Prelude.{◌≡◌, ◌⊎◌, ℕ, suc, List, Option, MatchOption}
+use Rattle.std.specs.Prelude.{◌≡◌, ◌⊎◌, ℕ, suc, List, MatchOption}
 use Rattle.xc_base.specs.Formats.{Row, Format, IsAccepted, IsFirstFault}
 use Rattle.xc_base.specs.Lines.{text_rows}
 use Rattle.xc_base.specs.Shelves.{held}

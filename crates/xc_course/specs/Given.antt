@@ -1,5 +1,5 @@
 -- Formulas over a merged machine, as a file gives them.
-use Rattle.std.specs.Prelude.{◌≡◌, ◌≤◌, ℕ, true, List, length}
+use Rattle.std.specs.Prelude.{◌≡◌, ◌≤◌, true, List, length}
 use Rattle.std.specs.List.{list_all}
 use Rattle.xc_alg.specs.Products.{product}
 use Rattle.xc_merge.specs.Merges.{Merge, parts_of}

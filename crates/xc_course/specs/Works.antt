@@ -1,5 +1,5 @@
 -- What serving a request by its course comes to: the one clause of each mode. No clause of `run` rests on these words.
-use Rattle.std.specs.Prelude.{◌≡◌, ◌⊎◌, ◌≤◌, ℕ, List, Option, IfSome, Result, Ok, Err}
+use Rattle.std.specs.Prelude.{◌≡◌, ◌⊎◌, ℕ, List, Option, IfSome, Result, Ok, Err}
 use Rattle.std.specs.String.{string_bytes}
 use Rattle.xc_base.specs.Shelves.{Told, Shelved, HasRisen}
 use Rattle.xc_base.specs.Sinks.{Sunk, AddsNothing, IsCalm}
@@ -11,7 +11,7 @@ use Rattle.xc_lines.specs.declared.halt.Halt.TheVariants.{Words, Refused, ReadFa
 use Rattle.xc_lines.specs.declared.passed.Passed.{Passed}
 use Rattle.xc_lines.specs.declared.status.Status.{Status}
 use Rattle.xc_course.specs.Items.{Item, IsReply, IsPart, IsPartOrReply, Adds}
-use Rattle.xc_course.specs.Courses.{Course, Event, Ends, Outcome, Absent, Refusal, Served, always}
+use Rattle.xc_course.specs.Courses.{Course, Ends, Outcome, Absent, Refusal, Served, always}
 use Rattle.xc_course.specs.Loads.{FailedOnce, KeepsOrFails, TellsSame}
 use Rattle.xc_course.specs.Trees.{Tree, Happens}
 

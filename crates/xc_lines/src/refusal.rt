@@ -116,11 +116,7 @@ fn refused_count(
 }
 
 /// The line for a file whose statements are at fault.
-pub fn refused_file(
-    alloc: Global,
-    name: &str,
-    fault: &FileFault,
-) -> Result<String, AllocError>
+pub fn refused_file(alloc: Global, name: &str, fault: &FileFault) -> Result<String, AllocError>
     ensures { IfOk result (λ t. string_bytes t ≡ fault_line name.now fault.now) }
 {
     match fault {

@@ -29,11 +29,7 @@ pub fn push_both(text: &mut String, label: &str, value: &str) -> Result<(), Allo
 }
 
 /// The text for a lattice of that height.
-pub fn lattice_line(
-    alloc: Global,
-    lattice: &Lattice,
-    height: u32,
-) -> Result<String, AllocError>
+pub fn lattice_line(alloc: Global, lattice: &Lattice, height: u32) -> Result<String, AllocError>
     ensures { IfOk result (λ t. string_bytes t ≡ lattice_text (value_of lattice.now) height) }
 {
     let size = lattice.size();
@@ -75,11 +71,7 @@ pub fn push_names(text: &mut String, names: &List<Word>) -> Result<(), AllocErro
 }
 
 /// The text for a file that breaks a law.
-pub fn broken_text(
-    alloc: Global,
-    law: Law,
-    elements: &List<Word>,
-) -> Result<String, AllocError>
+pub fn broken_text(alloc: Global, law: Law, elements: &List<Word>) -> Result<String, AllocError>
     ensures { IfOk result (λ t. string_bytes t ≡ broken_text law elements.now) }
 {
     let mut text = String::new(alloc);

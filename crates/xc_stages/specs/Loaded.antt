@@ -1,16 +1,21 @@
 -- Files that were loaded, cut and read, and what stops this.
-use Rattle.std.specs.Prelude.{◌≡◌, ◌≤◌, ◌⊎◌, ℕ, List, [], ◌∷◌, ◌++◌, Option, None, option_map, MatchOption}
+use Rattle.std.specs.Prelude.{◌≡◌, ◌≤◌, ◌⊎◌, ℕ, List, [], ◌∷◌, ◌++◌, None, option_map, MatchOption, Result}
 use Rattle.std.specs.String.{string_bytes}
 use Rattle.xc_base.specs.Formats.{Row, Format, IsFirstFault}
 use Rattle.xc_base.specs.Lines.{text_rows}
 use Rattle.xc_base.specs.Shelves.{Told, Shelved, HasRisen, IsAbsentIfSteady}
+use Rattle.xc_base.specs.Sinks.{Sunk}
 use Rattle.xc_base.specs.Text.{text_fault}
 use Rattle.xc_base.specs.declared.fault.FileFault.{FileFault}
-use Rattle.xc_lattice.specs.LatticeFiles.{Verdict, Unlawful, Lawful}
+use Rattle.xc_lattice.specs.LatticeFiles.{Verdict, Unlawful, Lawful, IsVerdict}
 use Rattle.xc_lattice.specs.Values.{value_of as lattice_of}
 use Rattle.xc_lines.specs.Texts.{read_line, text_line, fault_line}
 use Rattle.xc_lines.specs.declared.halt.Halt.{Halt}
 use Rattle.xc_lines.specs.declared.halt.Halt.TheVariants.{Words, Refused, ReadFault, WriteFault, Memory}
+use Rattle.xc_lines.specs.declared.passed.Passed.{Passed}
+use Rattle.xc_course.specs.Trees.{Tree, OpenViewpoints}
+use Rattle.xc_course.specs.Works.{Works}
+use Rattle.xc_merge.specs.Merges.{Viewpoint}
 use Rattle.xc_stages.specs.declared.lattices.Judged.{Judged}
 use Rattle.xc_stages.specs.declared.lattices.Judged.TheVariants as judged
 
@@ -65,7 +70,29 @@ pub record IsFaultRefusal {S V : Type 0} (format : Format S V) (name : List ℕ)
   pub first : IsFirstFault format rows fault
   pub told : line ≡ fault_line name fault
 
+-- the text that a file of these bytes has can be cut, and P holds of its rows and of what was found in them
+pub record IsRead {X : Type 0} (P : List Row → X → Type 0) (limit : ℕ) (bytes : List ℕ) (x : X) : Type 0 where
+  pub sound : text_fault limit bytes ≡ None
+  pub read : P (text_rows bytes) x
+
+-- Why nothing is found in a file of these bytes: the line is that of its text's fault, or else P holds of its rows and the line.
+abbrev pub IsUnread : (List Row → List ℕ → Type 0) → ℕ → List ℕ → List ℕ → Halt → Type 0
+IsUnread P limit name bytes (Refused line) = MatchOption (text_fault limit bytes) (P (text_rows bytes) (string_bytes line)) (λ fault. string_bytes line ≡ text_line name fault)
+IsUnread P limit name bytes Memory = Unit {0}
+IsUnread P limit name bytes Words = ⊥
+IsUnread P limit name bytes (ReadFault line) = ⊥
+IsUnread P limit name bytes WriteFault = ⊥
+
 -- the verdict that the code's is of
 abbrev pub verdict_of : Judged → Verdict
 verdict_of (judged.Broken law elements) = Unlawful law elements
 verdict_of (judged.Lawful lattice) = Lawful (lattice_of lattice)
+
+-- the code's verdict is that of the rows
+abbrev pub IsVerdictOf : List Row → Judged → Type 0
+IsVerdictOf rows judged = IsVerdict rows (verdict_of judged)
+
+-- The viewpoints of the first files were found, and others are left: what the work behind those that are left comes to, the whole
+-- comes to.
+pub record OpensOn (files left : List (List ℕ)) (found : List Viewpoint) (before now : Shelved) : Type 0 where
+  pub by : (next : List Viewpoint → Tree) (after : Shelved) (out out_after : Sunk) (result : Result Passed Halt) → Works (OpenViewpoints left found next) now after out out_after result → Works (OpenViewpoints files [] next) before after out out_after result

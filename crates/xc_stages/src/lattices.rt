@@ -1,11 +1,13 @@
 //! Lattice files.
 
 ghost use Rattle.std.specs.Prelude.{IfOk, IfErr};
+ghost use Rattle.xc_base.specs.Lines.{rows_in};
+ghost use Rattle.xc_lattice.specs.LatticeFiles.{lattice_format};
 ghost use Rattle.xc_lattice.specs.Values.{value_of as lattice_of};
 ghost use Rattle.xc_course.specs.FileKinds.{Lattices};
 ghost use Rattle.xc_course.specs.Trees.{Open, OpenLattice};
 ghost use Rattle.xc_course.specs.Works.{GoesOn, Stops};
-ghost use Rattle.xc_stages.specs.Loaded.{verdict_of};
+ghost use Rattle.xc_stages.specs.Loaded.{IsFaultRefusal, IsRead, IsRefusalHalt, IsUnread, IsVerdictOf, verdict_of};
 
 use crate::load::{FILE_LIMIT, cut, load};
 use std::alloc::Global;
@@ -17,12 +19,32 @@ use xc_lines::{Halt, refused_broken, refused_file};
 #[derive(Drop)]
 pub enum Judged {
     /// It breaks a law, first by these elements.
-    Broken {
-        law: Law,
-        elements: List<Word>,
-    },
+    Broken { law: Law, elements: List<Word> },
     /// It breaks none.
     Lawful(Lattice),
+}
+
+/// The verdict on the lattice of a file that is cut into lines.
+fn read_lattice(alloc: Global, name: &str, lines: &Lines) -> Result<Judged, Halt>
+    ensures read { IfOk result (IsVerdictOf (rows_in lines.now)) }
+    ensures stopped { IfErr result (IsRefusalHalt (IsFaultRefusal lattice_format name.now (rows_in lines.now))) }
+{
+    match xc_lattice::read(alloc, lines) {
+        Ok(lattice) => Ok(Judged::Lawful(lattice)),
+        Err(LatFault::Broken { law, elements }) => Ok(Judged::Broken { law, elements }),
+        Err(LatFault::File(fault)) => Err(Halt::Refused(refused_file(alloc, name, &fault)?)),
+        Err(LatFault::Memory) => Err(Halt::Memory),
+    }
+}
+
+/// The verdict on the lattice in a file of these bytes.
+#[tactic(auto, using(crate::proofs::Reading::read_found, crate::proofs::Reading::not_found, crate::proofs::Reading::not_cut))]
+fn lattice_in(alloc: Global, name: &str, bytes: &[u8]) -> Result<Judged, Halt>
+    ensures read { IfOk result (IsRead IsVerdictOf FILE_LIMIT bytes.now) }
+    ensures stopped { IfErr result (IsUnread (IsFaultRefusal lattice_format name.now) FILE_LIMIT name.now bytes.now) }
+{
+    let lines = cut(alloc, name, bytes, FILE_LIMIT)?;
+    read_lattice(alloc, name, &lines)
 }
 
 /// Opens a lattice file, and judges it by the six laws.

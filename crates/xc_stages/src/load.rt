@@ -1,6 +1,6 @@
 //! Loading a file, and cutting its text into lines.
 
-ghost use Rattle.std.specs.Prelude.{IfOk, IfErr};
+ghost use Rattle.std.specs.Prelude.{◌<◌, IfOk, IfErr};
 ghost use Rattle.xc_base.specs.Lines.{rows_in};
 ghost use Rattle.xc_base.specs.Shelves.{IsLoaded};
 ghost use Rattle.xc_course.specs.Loads.{TellsSame};

@@ -1,7 +1,7 @@
 -- What a call of `run` does, in eight parts. Outcomes are spoken of where the shelf tells its files, and the bytes of out and err
 -- where these tell them.
-use Rattle.std.specs.Prelude.{◌≡◌, ◌≢◌, ◌⊎◌, ℕ, Bool, true, false, List, Option, None, IfSome, MatchOption}
-use Rattle.xc_base.specs.Shelves.{Told, Shelved, HasRisen, has_risen}
+use Rattle.std.specs.Prelude.{◌≡◌, ◌≢◌, ◌⊎◌, ℕ, Bool, true, false, List, None, IfSome, MatchOption}
+use Rattle.xc_base.specs.Shelves.{Shelved, HasRisen, has_risen}
 use Rattle.xc_base.specs.Sinks.{Sunk, AddsWhole, AddsFront, AddsNothing, IsCalm}
 use Rattle.xc_base.specs.declared.shelf.File.{File}
 use Rattle.xc_words.specs.Requests.{request_of}
@@ -86,15 +86,15 @@ pub record AnswersWriteFault (call : Call) : Type 0 where
   pub part : call.status ≡ WriteFault → Comes call.words call.shelf (IsServed (λ status items. GetsPart call.out call.out_after items))
 
 -- of a served outcome out gets such a part or all at most, and else nothing
-abbrev pub GetsAtMost : Call → Outcome → Type 0
-GetsAtMost call (Served status items) = GetsPartOrAll call.out call.out_after items
-GetsAtMost call (Absent name) = WritesNothing call
-GetsAtMost call (Refusal line) = WritesNothing call
+abbrev pub GetsAtMost : Sunk → Sunk → Outcome → Type 0
+GetsAtMost out out_after (Served status items) = GetsPartOrAll out out_after items
+GetsAtMost out out_after (Absent name) = AddsNothing out.bytes out_after.bytes
+GetsAtMost out out_after (Refusal line) = AddsNothing out.bytes out_after.bytes
 
 -- Where memory ran out, out gets of a served outcome such a part or all at most, and nothing where nothing was asked. Over a shelf
 -- that tells no files out gets nothing, or such a part where each load finds some files. No put failed.
 pub record AnswersMemory (call : Call) : Type 0 where
-  pub asked : call.status ≡ Memory → ForOutcome call.words call.shelf (GetsAtMost call)
+  pub asked : call.status ≡ Memory → ForOutcome call.words call.shelf (GetsAtMost call.out call.out_after)
   pub unasked : call.status ≡ Memory → request_of call.words ≡ None → WritesNothing call
   pub may : call.status ≡ Memory → WritesNothing call ⊎ ForSome call.words (IsServed (λ status items. GetsPartOrAll call.out call.out_after items))
   pub calm : call.status ≡ Memory → call.out_after.faults ≡ call.out.faults

@@ -4,7 +4,7 @@ use Rattle.xc_base.specs.declared.shelf.File.{File}
 use Rattle.xc_words.specs.Requests.{request_of}
 use Rattle.xc_words.specs.declared.asked.Request.{Request}
 use Rattle.xc_words.specs.declared.asked.Request.TheVariants.{Lattice, Check, Show, Gen}
-use Rattle.xc_course.specs.Courses.{Course, Ends, Outcome, always}
+use Rattle.xc_course.specs.Courses.{Ends, Outcome, always}
 use Rattle.xc_course.specs.Trees.{Tree, Happens}
 use Rattle.xc_show.specs.Showing.{LatticeTree, ShowTree}
 use Rattle.xc_eval.specs.Checking.{CheckTree, GenTree}

@@ -1,0 +1,4 @@
+pub mod Once
+pub mod Existence
+pub mod Facts
+pub mod Working

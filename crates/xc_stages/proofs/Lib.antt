@@ -1,0 +1,6 @@
+pub mod Chaining
+pub mod Given
+pub mod Loading
+pub mod Merging
+pub mod Opening
+pub mod Reading
