@@ -35,13 +35,15 @@ block_is marked m number nodes table (Err e) tells is = tt
 pub item_on : (item : Item) (made text : List ℕ) (old now : Sunk) (result : Result (Unit {0}) Halt) → IsPut text old now result → IsTextOf item made → text ≡ made → WritesOn (item ∷ []) old now result
 item_on item made text old now result h is same = put_on item text old now result h (subst (λ (t : List ℕ). IsTextOf item t) (sym same) is)
 
--- a formula at its place among others
-nodes_at : (items : List Formula) (i : ℕ) (f : Formula) → i < length items → f ≡ get_or items i f → (i < length (map (λ (x : Formula). x.nodes) items)) × (f.nodes ≡ get_or (map (λ (x : Formula). x.nodes) items) i f.nodes)
-nodes_at items i f low is = (omega (arith, length-map items (λ (x : Formula). x.nodes)), ap (λ (x : Formula). x.nodes) is ∙ sym (get_or-map (λ (x : Formula). x.nodes) items i f f.nodes low))
+-- a formula at its place in a slice of others
+nodes_at : (slice items : List Formula) (i : ℕ) (f : Formula) → slice ≡ items → i < length slice → f ≡ get_or slice i f → (i < length (map (λ (x : Formula). x.nodes) items)) × (f.nodes ≡ get_or (map (λ (x : Formula). x.nodes) items) i f.nodes)
+nodes_at slice items i f same low is =
+    subst (λ (fs : List Formula). (i < length (map (λ (x : Formula). x.nodes) fs)) × (f.nodes ≡ get_or (map (λ (x : Formula). x.nodes) fs) i f.nodes)) same
+    (omega (arith, length-map slice (λ (x : Formula). x.nodes)), ap (λ (x : Formula). x.nodes) is ∙ sym (get_or-map (λ (x : Formula). x.nodes) slice i f f.nodes low))
 
-pub formula_passes : (p : List Kind → Bool) (items : List Formula) (i : ℕ) (f : Formula) → list_all p (map (λ (x : Formula). x.nodes) items) ≡ true → i < length items → f ≡ get_or items i f → p f.nodes ≡ true
-formula_passes p items i f h low is =
-    let at = nodes_at items i f low is in
+pub formula_passes : (p : List Kind → Bool) (slice items : List Formula) (i : ℕ) (f : Formula) → slice ≡ items → i < length slice → f ≡ get_or slice i f → list_all p (map (λ (x : Formula). x.nodes) items) ≡ true → p f.nodes ≡ true
+formula_passes p slice items i f same low is h =
+    let at = nodes_at slice items i f same low is in
     subst (λ (nodes : List Kind). p nodes ≡ true) (sym at.1) (AllPass-from_list_all p (map (λ (x : Formula). x.nodes) items) h i f.nodes at.0)
 
 -- the blocks of formulas, one after another
@@ -63,14 +65,14 @@ module _ (marked : Bool) (m : Merge) where
   blocks_split number (first ∷ formulas) zero low = let e : number + 0 ≡ number = omega arith in rw e refl
   blocks_split number (first ∷ formulas) (suc i) low = let e : number + suc i ≡ number + 1 + i = omega arith in rw e (ap (λ (l : List Item). Block marked m number first ∷ l) (blocks_split (number + 1) formulas i (omega arith)))
 
-  module _ (items : List Formula) (i : ℕ) (f : Formula) (old mid new : Sunk) (low : i < length items) (is : f ≡ get_or items i f) (so_far : WritesOn (blocks_of marked m 1 (take i (map (λ (x : Formula). x.nodes) items))) old mid (Ok tt)) where
+  module _ (slice items : List Formula) (i : ℕ) (f : Formula) (old mid new : Sunk) (same : slice ≡ items) (low : i < length slice) (is : f ≡ get_or slice i f) (so_far : WritesOn (blocks_of marked m 1 (take i (map (λ (x : Formula). x.nodes) items))) old mid (Ok tt)) where
     abbrev formulas : List (List Kind)
     formulas = map (λ (x : Formula). x.nodes) items
 
     -- the first ones, and the next one
     one_more : (result : Result (Unit {0}) Halt) → WritesOn (Block marked m (i + 1) f.nodes ∷ []) mid new result → WritesOn (blocks_of marked m 1 (take (i + 1) formulas)) old new result
     one_more result h =
-        let at = nodes_at items i f low is in
+        let at = nodes_at slice items i f same low is in
         let number : i + 1 ≡ 1 + i = omega arith in
         subst (λ (all : List Item). WritesOn all old new result) (sym (blocks_more 1 formulas i f.nodes at.0 at.1))
         (then_on (blocks_of marked m 1 (take i formulas)) (Block marked m (1 + i) f.nodes ∷ []) old mid new tt result so_far (subst (λ (k : ℕ). WritesOn (Block marked m k f.nodes ∷ []) mid new result) number h))
@@ -80,7 +82,7 @@ module _ (marked : Bool) (m : Merge) where
 
     pub one_block_stops : (halt : Halt) → WritesOn (Block marked m (i + 1) f.nodes ∷ []) mid new (Err halt) → WritesOn (blocks_of marked m 1 formulas) old new (Err halt)
     one_block_stops halt h =
-        let at = nodes_at items i f low is in
+        let at = nodes_at slice items i f same low is in
         subst (λ (all : List Item). WritesOn all old new (Err halt)) (blocks_split 1 formulas (i + 1) (omega (arith, at.0)))
         (stops_on (blocks_of marked m 1 (take (i + 1) formulas)) (blocks_of marked m (1 + (i + 1)) (drop (i + 1) formulas)) old new halt (one_more (Err halt) h))
 
