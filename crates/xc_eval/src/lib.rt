@@ -1,9 +1,9 @@
 //! The modes that evaluate formulas over a merged machine: `check`, and `gen`, which checks files that it generates.
 #![tactic(auto)]
 
-mod check;
-mod generate;
+mod checking;
+mod generating;
 mod report;
 
-pub use check::check;
-pub use generate::generate;
+pub use checking::check;
+pub use generating::generate;

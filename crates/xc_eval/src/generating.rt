@@ -3,7 +3,7 @@
 ghost use Rattle.xc_course.specs.Works.{WorksAlways};
 ghost use Rattle.xc_eval.specs.Checking.{GenTree};
 
-use crate::check::check;
+use crate::checking::check;
 use std::alloc::Global;
 use xc_base::Sink;
 use xc_gen::{GenFault, make};

@@ -1,0 +1,4 @@
+pub mod Behind
+pub mod Finding
+pub mod GeneratedFiles
+pub mod Reporting

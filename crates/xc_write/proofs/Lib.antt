@@ -1,0 +1,4 @@
+pub mod Loops
+pub mod Parts
+pub mod Serving
+pub mod Writing
