@@ -1,5 +1,5 @@
 -- Where each load of a course over some files finds its file.
-use Rattle.std.proofs.Common.{◌≡◌, ℕ, List, [], ◌∷◌, ◌++◌, Option, Some, None, MatchOption, IsSome, refl, ap, subst, inl, inr, ◌∙◌}
+use Rattle.std.proofs.Common.{◌≡◌, ℕ, List, Option, Some, None, MatchOption, IsSome, refl, ap, subst, inl, inr, ◌∙◌}
 use Rattle.xc_base.specs.Formats.{Row, Format, IsAccepted}
 use Rattle.xc_base.specs.Lines.{text_rows}
 use Rattle.xc_base.specs.Text.{text_fault}

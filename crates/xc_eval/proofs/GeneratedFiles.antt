@@ -1,5 +1,5 @@
 -- What comes of the generated files: each load of their check finds its file, so it comes to its own end.
-use Rattle.std.proofs.Common.{◌≡◌, ℕ, Bool, true, false, List, [], ◌∷◌, ◌++◌, map, codes, Option, Some, None, if◌then◌else◌, Result, Ok, Err, IsSome, refl, sym, ap, subst, inl, inr, ◌⊎◌, ◌∙◌}
+use Rattle.std.proofs.Common.{◌≡◌, ℕ, Bool, true, List, [], ◌∷◌, ◌++◌, map, codes, Option, Some, None, if◌then◌else◌, Result, Ok, Err, IsSome, refl, sym, ap, subst, inl, inr, ◌⊎◌, ◌∙◌}
 use Rattle.std.specs.String.{string_bytes}
 use Rattle.std.specs.declared.string.String.{String}
 use Rattle.std.specs.declared.alloc.Global.{Global}
@@ -10,7 +10,6 @@ use Rattle.xc_base.specs.declared.shelf.File.{File}
 use Rattle.xc_sigmap.specs.MapFiles.{MapValue, map_format}
 use Rattle.xc_sigmap.specs.declared.parts.Use.{Use}
 use Rattle.xc_merge.specs.Merges.{Merge, Viewpoint}
-use Rattle.xc_merge.specs.Faults.{merge_fault}
 use Rattle.xc_ctl.specs.FormulaFiles.{formula_format}
 use Rattle.xc_report.specs.Reports.{signature_of}
 use Rattle.xc_gen.specs.Generated.{chain_text, diamond_text, view_text, map_text, formulas_text, files_of as generated_files, generated, is_size, IsFaultOf}
@@ -23,11 +22,9 @@ use Rattle.xc_lines.specs.Texts.{size_line}
 use Rattle.xc_lines.specs.declared.halt.Halt.{Halt}
 use Rattle.xc_lines.specs.declared.halt.Halt.TheVariants.{Words, Refused, ReadFault, WriteFault, Memory}
 use Rattle.xc_lines.specs.declared.passed.Passed.{Passed}
-use Rattle.xc_lines.specs.declared.status.Status.{Status}
-use Rattle.xc_course.specs.Courses.{Outcome, Refusal, Ends, Loading, always, Reads}
-use Rattle.xc_course.specs.Items.{Item}
+use Rattle.xc_course.specs.Courses.{Outcome, Refusal, Reads}
 use Rattle.xc_course.specs.Trees.{Tree, Over, Happens, OpenViewpoints}
-use Rattle.xc_course.specs.Works.{CameTo, EndsWith, EndsSo, IsServed, LeavesTold, Works, WorksAlways}
+use Rattle.xc_course.specs.Works.{CameTo, EndsWith, EndsSo, LeavesTold, Works, WorksAlways}
 use Rattle.xc_course.proofs.Working.{ends_always, halt_kept, same_told, goes_unless, stops_unless}
 use Rattle.xc_eval.specs.Checking.{CheckTree, GenTree, size_refusal}
 use Rattle.xc_eval.proofs.Behind.{behind_map, behind_viewpoints, behind_merge, behind_formulas, behind_limit}

@@ -11,12 +11,7 @@ use xc_lines::{Halt, Passed, refused_size};
 
 /// Evaluates the generated formulas over the machine that the generated map merges, and writes the report. The files come from a
 /// shelf of their own, so no load fails.
-pub fn generate<W: Sink>(
-    alloc: Global,
-    out: &mut W,
-    number: u32,
-    size: u32,
-) -> Result<Passed, Halt>
+pub fn generate<W: Sink>(alloc: Global, out: &mut W, number: u32, size: u32) -> Result<Passed, Halt>
     ensures { WorksAlways (GenTree number size) (W.seen out.old) (W.seen out.new) result }
 {
     match make(alloc, number, size) {

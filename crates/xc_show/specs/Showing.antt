@@ -10,7 +10,7 @@ use Rattle.xc_words.specs.declared.asked.ShowKind.TheVariants as kinds
 use Rattle.xc_lines.specs.Texts.{fault_line, broken_text}
 use Rattle.xc_lines.specs.declared.status.Status.TheVariants.{Done, No}
 use Rattle.xc_course.specs.FileKinds.{Lattices, Views, Maps}
-use Rattle.xc_course.specs.Items.{Item, Fixed, Described}
+use Rattle.xc_course.specs.Items.{Fixed, Described}
 use Rattle.xc_course.specs.Trees.{Tree, Open, OpenLattice, Refuse, Serve}
 
 -- what is said of a lattice file: it is described, or the answer is no, with the first law that it breaks

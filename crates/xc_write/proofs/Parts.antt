@@ -1,9 +1,9 @@
 -- What a sink gets of items: parts of their texts, and texts behind those that were added before.
-use Rattle.std.proofs.Common.{◌≡◌, ℕ, zero, suc, ◌+◌, ◌-◌, ◌<◌, ◌≤◌, List, [], ◌∷◌, ◌++◌, length, take, Option, Some, None, inl, inr, refl, sym, ◌∙◌, ap, append-nil, append_assoc, arith}
+use Rattle.std.proofs.Common.{◌≡◌, ℕ, zero, suc, ◌+◌, ◌-◌, ◌<◌, List, [], ◌∷◌, ◌++◌, length, take, Option, Some, None, inl, inr, refl, sym, ◌∙◌, ap, append-nil, append_assoc, arith}
 use Rattle.std.proofs.Math.Seq.{take-append-add}
 use Rattle.xc_base.specs.Fronts.{IsFront}
 use Rattle.xc_base.specs.Sinks.{AddsWhole, AddsPart}
-use Rattle.xc_course.specs.Items.{Item, IsProperPrefix, IsTextOf, IsReply, IsPart, IsPartOrReply, Adds}
+use Rattle.xc_course.specs.Items.{Item, IsProperPrefix, IsTextOf, IsPart, IsPartOrReply, Adds}
 use Rattle.xc_course.specs.Items.IsReply.{none, more}
 use Rattle.xc_course.specs.Items.IsPart.{nothing, part, whole}
 

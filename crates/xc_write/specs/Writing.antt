@@ -1,7 +1,7 @@
 -- What the writing of items does to a sink. No clause of `run` rests on these words.
-use Rattle.std.specs.Prelude.{◌≡◌, ℕ, List, [], ◌∷◌, ◌++◌, Result, Ok, Err}
+use Rattle.std.specs.Prelude.{◌≡◌, ℕ, List, ◌++◌, Result, Ok, Err}
 use Rattle.xc_base.specs.Shelves.{HasRisen}
-use Rattle.xc_base.specs.Sinks.{Sunk, AddsWhole, AddsPart, AddsFront, IsCalm}
+use Rattle.xc_base.specs.Sinks.{Sunk, AddsWhole, AddsPart, IsCalm}
 use Rattle.xc_course.specs.Items.{Item, IsReply, IsPart, IsPartOrReply, Adds}
 use Rattle.xc_lines.specs.declared.halt.Halt.{Halt}
 use Rattle.xc_lines.specs.declared.halt.Halt.TheVariants.{Words, Refused, ReadFault, WriteFault, Memory}

@@ -1,4 +1,4 @@
-use Rattle.std.proofs.Common.{[], ◌∷◌, subst}
+use Rattle.std.proofs.Common.{subst}
 use Rattle.xc_ctl.specs.Formulas.{nodes_in}
 use Rattle.xc_machine.specs.Machines.{merge_of}
 use Rattle.xc_machine.specs.declared.machine.Machine.{Machine}
