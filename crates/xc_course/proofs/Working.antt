@@ -22,7 +22,7 @@ abbrev pub some_moments : ℕ → List File
 some_moments k = []
 
 -- what holds for a shelf that tells its files
-pub told_map : {P Q : Told → Type 0} (told : Option Told) → ((t : Told) → P t → Q t) → IfSome told P → IfSome told Q
+told_map : {P Q : Told → Type 0} (told : Option Told) → ((t : Told) → P t → Q t) → IfSome told P → IfSome told Q
 told_map None f h = tt
 told_map (Some t) f h = f t h
 
@@ -80,9 +80,6 @@ module _ (P Q : Course) (f : (m : ℕ → List File) (e : Event) → P m e → Q
 
   pub came_by : (out out_after : Sunk) (result : Result Passed Halt) → CameTo P shelf shelf_after out out_after result → CameTo Q shelf shelf_after out out_after result
   came_by out out_after result h = came_as P Q shelf shelf shelf_after ends_by fails_by (λ e. e) (λ r. r) out out_after result h
-
-pub works_by : (tree other : Tree) → ((m : ℕ → List File) (e : Event) → Happens tree m e → Happens other m e) → (shelf shelf_after : Shelved) (out out_after : Sunk) (result : Result Passed Halt) → Works tree shelf shelf_after out out_after result → Works other shelf shelf_after out out_after result
-works_by tree other f shelf shelf_after out out_after result h = record { came = came_by (Happens tree) (Happens other) f shelf shelf_after out out_after result h.came; kept = h.kept; files = h.files }
 
 risen_on : (a b c : ℕ) → a ≤ b → HasRisen b c → HasRisen a c
 risen_on a b c h r = risen_by (ltb b c) (eqb c 18446744073709551615) refl refl r where

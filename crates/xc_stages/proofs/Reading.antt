@@ -6,16 +6,11 @@ use Rattle.xc_base.specs.Formats.{Row}
 use Rattle.xc_base.specs.Lines.{text_rows}
 use Rattle.xc_base.specs.Text.{text_fault}
 use Rattle.xc_base.specs.declared.fault.TextFault.{TextFault}
-use Rattle.xc_base.specs.declared.fault.FileFault.{FileFault}
-use Rattle.xc_lattice.specs.LatticeFiles.{Faulty, IsVerdict, lattice_format}
-use Rattle.xc_lattice.specs.declared.fault.LatFault.{LatFault}
-use Rattle.xc_lattice.specs.declared.fault.LatFault.TheVariants.{File}
-use Rattle.xc_lattice.specs.Values.{IsFault}
-use Rattle.xc_lines.specs.Texts.{text_line, fault_line}
+use Rattle.xc_lines.specs.Texts.{text_line}
 use Rattle.xc_lines.specs.declared.halt.Halt.{Halt}
 use Rattle.xc_lines.specs.declared.halt.Halt.TheVariants.{Words, Refused, ReadFault, WriteFault, Memory}
 use Rattle.xc_course.proofs.Working.{passed_on}
-use Rattle.xc_stages.specs.Loaded.{IsCut, IsCutHalt, IsFaultRefusal, IsRead, IsRefusalHalt, IsUnread}
+use Rattle.xc_stages.specs.Loaded.{IsCut, IsCutHalt, IsRead, IsRefusalHalt, IsUnread}
 
 -- what is read of the rows of a text that is cut is read of the text
 pub read_found : {T X : Type 0} (P : List Row → X → Type 0) (f : T → X) (limit : ℕ) (bytes : List ℕ) (rows : List Row) (result : Result T Halt) → IsCut limit bytes rows → IfOk result (λ t. P rows (f t)) → IfOk result (λ t. IsRead P limit bytes (f t))
@@ -50,9 +45,3 @@ uncut P limit name bytes WriteFault h = h
 
 pub not_cut : {T : Type 0} (P : List Row → List ℕ → Type 0) (limit : ℕ) (name bytes : List ℕ) (result : Result T Halt) (halt : Halt) → IsErrAnd result (λ e. e ≡ halt) → IsCutHalt limit name bytes halt → IfErr result (IsUnread P limit name bytes)
 not_cut P limit name bytes result halt is h = passed_on (IsUnread P limit name bytes) result halt is (uncut P limit name bytes halt h)
-
--- the line for a lattice file with a fault
-pub lattice_refusal : (name : List ℕ) (rows : List Row) (e : LatFault) (fault : FileFault) (line : List ℕ) → e ≡ File fault → IsFault rows e → line ≡ fault_line name fault → IsFaultRefusal lattice_format name rows line
-lattice_refusal name rows e fault line is h told =
-    let judged : IsVerdict rows (Faulty fault) = subst (λ (f : LatFault). IsFault rows f) is h in
-    record { fault = fault; first = judged; told = told }
