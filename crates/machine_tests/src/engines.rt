@@ -17,7 +17,7 @@ use xc_alg::Algebra;
 use xc_base::cut_lines;
 use xc_ctl::{Formula, Formulas, Rounds, read_formulas};
 use xc_machine::Machine;
-use xc_plain::Engine;
+use xc_plain::solve;
 use xc_report::formulas_fit;
 
 /// The formulas of a text, over the propositions of a machine and its elements.
@@ -64,14 +64,13 @@ fn rounds_told<T: Rounds>(alloc: Global, table: &T, node: u16) -> Result<String,
     Ok(text)
 }
 
-// The rounds of a formula, by an engine of its own.
+// The rounds of a formula.
 #[tactic(auto, unfolding(xc_merge::specs::MergedFrames::merged_frame))]
 fn solved_told(alloc: Global, machine: &Machine, formula: &Formula) -> Result<String, Fail>
     requires few { states_of (merge_of machine.now).plan ≤ 4096 }
     requires range { let m = merge_of machine.now in is_table_in (product (parts_of m)).size (length m.plan.props) formula.now.nodes ≡ true }
 {
-    let engine = Engine::of(alloc, machine)?;
-    let table = engine.solve(alloc, formula)?;
+    let table = solve(alloc, machine, formula)?;
     let count = formula.nodes().len();
     if 0 < count && count <= 256 {
         Ok(rounds_told(alloc, &table, (count - 1) as u16)?)
