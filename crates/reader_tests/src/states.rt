@@ -4,17 +4,15 @@ ghost use Rattle.std.specs.Prelude.{◌≡◌, ◌<◌, true};
 ghost use Rattle.xc_theory.specs.Codes.{total};
 ghost use Rattle.xc_expr.specs.Actions.{is_action_in_range};
 ghost use Rattle.xc_expr.specs.Tests.{test_of, is_in_range};
-ghost use Rattle.xc_expr.specs.Variables.{are_fit, sizes_of};
+ghost use Rattle.xc_forms.specs.Variables.{are_fit, sizes_of};
 
 use crate::views::view_of;
 use std::alloc::{AllocError, Global};
 use std::fmt::Write;
 use std::test::Fail;
 use xc_base::{Bytes, cut_lines};
-use xc_expr::{
-    Action, Guard, Vars, holds, moves, print_action, print_guard, read_action, read_guard,
-    state_count,
-};
+use xc_expr::{Action, Guard, holds, moves, print_action, print_guard, read_action, read_guard};
+use xc_forms::{Vars, state_count};
 use xc_view::View;
 
 // States are numbered by six for `a`, two for `b` and one for `q`.

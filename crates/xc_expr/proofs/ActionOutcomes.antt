@@ -6,7 +6,7 @@ use Rattle.xc_expr.specs.ActionOutcomes.{AreKnown, IsNameFault}
 use Rattle.xc_expr.specs.Outcomes.{AreAssigns, IsActionFault}
 use Rattle.xc_expr.specs.Reading.{action_in}
 use Rattle.xc_expr.specs.Written.{Assigned, IsAction, set}
-use Rattle.xc_expr.specs.declared.domain.Domain.{Domain}
+use Rattle.xc_forms.specs.declared.domain.Domain.{Domain}
 use Rattle.xc_expr.specs.declared.assign.Assign.{Assign}
 use Rattle.xc_expr.specs.declared.setting.Setting.{Setting}
 use Rattle.xc_expr.specs.declared.fault.ExprFault.{ExprFault}

@@ -11,7 +11,8 @@ use Rattle.xc_expr.specs.ActionReading.{is_set, assignment_in, assignments_in, i
 use Rattle.xc_expr.specs.Laws.{ActionsAreRead, ActionsAreUnique}
 use Rattle.xc_expr.specs.Reading.{action_in}
 use Rattle.xc_expr.specs.Resolving.{both}
-use Rattle.xc_expr.specs.Written.{Assigned, To, Next, Prev, Any, is_variable_name, is_value_name, assignment_tokens, action_tokens, has_names, IsAction}
+use Rattle.xc_expr.specs.Written.{Assigned, To, Next, Prev, Any, assignment_tokens, action_tokens, has_names, IsAction}
+use Rattle.xc_forms.specs.VariableNames.{is_variable_name, is_value_name}
 
 -- the tokens are that assignment
 pub record IsAssignment (tokens : List (List ℕ)) (a : Assigned) : Type 0 where

@@ -15,12 +15,12 @@ use Rattle.xc_expr.specs.Actions.{assigned, assigns, is_assign_in_range, assigns
 use Rattle.xc_expr.specs.Laws.{PrintedActionsAreRead, ReadActionsAreWritable, AssignsAreUnique, ActionsKeepTheirTokens}
 use Rattle.xc_expr.specs.Printing.{variable_name, named_assignment, named_action}
 use Rattle.xc_expr.specs.Resolving.{then_some, variable, value, peer, operand, resolved_assignment, resolved_action, set_name, sets_twice}
-use Rattle.xc_expr.specs.Variables.{names_of, are_fit}
+use Rattle.xc_forms.specs.Variables.{names_of, are_fit}
 use Rattle.xc_expr.specs.Writable.{is_clear_assignment}
 use Rattle.xc_expr.specs.Written.{Assigned, To, Next, Prev, Any, has_names, action_tokens}
 use Rattle.xc_expr.specs.declared.assign.Assign.{Assign}
 use Rattle.xc_expr.specs.declared.assign.Assign.TheVariants as variants
-use Rattle.xc_expr.specs.declared.domain.Domain.{Domain}
+use Rattle.xc_forms.specs.declared.domain.Domain.{Domain}
 
 -- an assignment says by names what was written, and takes no variable for a value
 record IsNamed (vars : List Domain) (a : Assigned) (b : Assign) : Type 0 where

@@ -2,10 +2,11 @@
 use Rattle.std.proofs.Common.{◌≡◌, ℕ, zero, suc, true, false, List, [], ◌∷◌, ◌++◌, replicate, Some, None, codes, refl}
 use Rattle.xc_theory.specs.Codes.{total}
 use Rattle.xc_base.specs.Operators.{chained, chain, chain_up_to}
-use Rattle.xc_expr.specs.declared.domain.Domain.{Domain}
+use Rattle.xc_forms.specs.declared.domain.Domain.{Domain}
 use Rattle.xc_expr.specs.declared.assign.Assign.TheVariants as assigns
-use Rattle.xc_expr.specs.Variables.{are_fit, is_domain, state_limit}
-use Rattle.xc_expr.specs.Written.{IsGuard, is_variable_name, is_value_name, action_tokens, Equal, Unequal, True, False, Not, And, Or, To, Next, Prev, Any}
+use Rattle.xc_forms.specs.Variables.{are_fit, is_domain, state_limit}
+use Rattle.xc_expr.specs.Written.{IsGuard, action_tokens, Equal, Unequal, True, False, Not, And, Or, To, Next, Prev, Any}
+use Rattle.xc_forms.specs.VariableNames.{is_variable_name, is_value_name}
 use Rattle.xc_expr.specs.Written.IsSpelled.{truth, factor, summand, negated}
 use Rattle.xc_expr.specs.GuardReading.{atom, basic, nested, product, sum}
 use Rattle.xc_expr.specs.ActionReading.{assignment_in, assignments_in}

@@ -5,7 +5,7 @@ use Rattle.xc_expr.specs.Written.{Written}
 use Rattle.xc_expr.specs.Resolving.{resolved}
 use Rattle.xc_expr.specs.Reading.{guard_in}
 use Rattle.xc_expr.specs.Outcomes.{IsTest, IsUnknownGuard}
-use Rattle.xc_expr.specs.declared.domain.Domain.{Domain}
+use Rattle.xc_forms.specs.declared.domain.Domain.{Domain}
 use Rattle.xc_expr.proofs.GuardReading.{guard_sound}
 
 -- a guard of known names

@@ -1,7 +1,8 @@
 -- The tokens of a guard that is printed are spelled as the guard, and nest no deeper than any that are.
 use Rattle.std.proofs.Common.{◌≡◌, ℕ, zero, suc, ◌≤◌, max, Bool, true, false, ◌||◌, List, refl, arith}
 use Rattle.std.proofs.lemmas.Bool.{and_parts, and_from}
-use Rattle.xc_expr.specs.Written.{Written, True, False, Equal, Unequal, Not, And, Or, Level, Sum, Product, Basic, IsSpelled, is_variable_name, is_value_name}
+use Rattle.xc_expr.specs.Written.{Written, True, False, Equal, Unequal, Not, And, Or, Level, Sum, Product, Basic, IsSpelled}
+use Rattle.xc_forms.specs.VariableNames.{is_variable_name, is_value_name}
 use Rattle.xc_expr.specs.Written.IsSpelled.{truth, falsity, equal, unequal, negated, enclosed, factor, and, summand, or}
 use Rattle.xc_expr.specs.Printing.{is_and, is_or, is_joined, bracketed, guard_tokens}
 use Rattle.xc_expr.specs.Writable.{has_fit_names, deeper_if, depth_of}

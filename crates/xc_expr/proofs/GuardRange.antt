@@ -6,12 +6,12 @@ use Rattle.std.proofs.lemmas.Option.{none-some, same_Some}
 use Rattle.xc_base.specs.declared.memory.Memory.{Memory}
 use Rattle.xc_expr.proofs.KnownNames.{variable_in_range}
 use Rattle.xc_expr.proofs.KnownActions.{known_value, known_peer}
-use Rattle.xc_expr.specs.Variables.{are_fit}
+use Rattle.xc_forms.specs.Variables.{are_fit}
 use Rattle.xc_expr.specs.Tests.{Test, test_of, has_value, are_peers, is_in_range}
 use Rattle.xc_expr.specs.Tests as tests
 use Rattle.xc_expr.specs.Written.{Written, True, False, Equal, Unequal, Not, And, Or}
 use Rattle.xc_expr.specs.Resolving.{then_some, both, variable, value, peer, or_peer, operand, resolved}
-use Rattle.xc_expr.specs.declared.domain.Domain.{Domain}
+use Rattle.xc_forms.specs.declared.domain.Domain.{Domain}
 use Rattle.xc_expr.specs.declared.guard.Guard.{Guard}
 
 -- a variable that is found is there

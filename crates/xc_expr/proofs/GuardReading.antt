@@ -6,7 +6,8 @@ use Rattle.std.proofs.lemmas.Option.{none-some, same_Some}
 use Rattle.xc_base.specs.Operators.{Front, behind, alone, whole, chain, Shortens, Begins, IsSound}
 use Rattle.xc_base.proofs.Naming.{same_bytes}
 use Rattle.xc_base.proofs.Operators.{behind_cut, chain_ends, chain_goes, chained_begins, sound_shortens, chained_sound}
-use Rattle.xc_expr.specs.Written.{Written, True, False, Equal, Unequal, Not, And, Or, Level, Sum, Product, Basic, IsSpelled, is_variable_name, is_value_name, depth_limit, IsGuard}
+use Rattle.xc_expr.specs.Written.{Written, True, False, Equal, Unequal, Not, And, Or, Level, Sum, Product, Basic, IsSpelled, depth_limit, IsGuard}
+use Rattle.xc_forms.specs.VariableNames.{is_variable_name, is_value_name}
 use Rattle.xc_expr.specs.Written.IsSpelled.{truth, falsity, equal, unequal, negated, enclosed, factor, and, summand, or}
 use Rattle.xc_expr.specs.GuardReading.{comparison, literal, atom, negation, closed, or_else, products, sums, nested_by, basic, product, sum}
 use Rattle.xc_expr.specs.Reading.{guard_in}

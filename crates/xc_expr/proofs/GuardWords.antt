@@ -5,7 +5,8 @@ use Rattle.std.proofs.lemmas.Bool.{false≢true}
 use Rattle.std.proofs.lemmas.List.Folds.{list_any-append}
 use Rattle.xc_base.specs.Names.{is_among}
 use Rattle.xc_base.proofs.Naming.{same_bytes}
-use Rattle.xc_expr.specs.Written.{Written, Level, IsSpelled, is_variable_name, is_value_name}
+use Rattle.xc_expr.specs.Written.{Written, Level, IsSpelled}
+use Rattle.xc_forms.specs.VariableNames.{is_variable_name, is_value_name}
 use Rattle.xc_expr.specs.Written.IsSpelled.{truth, falsity, equal, unequal, negated, enclosed, factor, and, summand, or}
 
 -- neither of two

@@ -14,10 +14,10 @@ use Rattle.xc_expr.specs.Printing.{variable_name, value_name, named_guard, guard
 use Rattle.xc_expr.specs.Resolving.{then_some, variable, value, peer, operand, resolved}
 use Rattle.xc_expr.specs.Tests.{Test, has_value, are_peers, is_in_range}
 use Rattle.xc_expr.specs.Tests as tests
-use Rattle.xc_expr.specs.Variables.{are_fit}
+use Rattle.xc_forms.specs.Variables.{are_fit}
 use Rattle.xc_expr.specs.Writable.{has_fit_names, depth_of, is_no_value, is_clear, is_writable_guard}
 use Rattle.xc_expr.specs.Written.{Written, True, False, Equal, Unequal, Not, And, Or, Sum, depth_limit}
-use Rattle.xc_expr.specs.declared.domain.Domain.{Domain}
+use Rattle.xc_forms.specs.declared.domain.Domain.{Domain}
 
 -- a test says by names what was written, and takes no variable for a value
 record IsNamed (vars : List Domain) (g : Written) (t : Test) : Type 0 where

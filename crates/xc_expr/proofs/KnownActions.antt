@@ -8,7 +8,7 @@ use Rattle.xc_base.specs.Names.{are_same, is_among, name_at}
 use Rattle.xc_base.proofs.Naming.{found_in_range, bytes_refl, or_false_left, or_false_right}
 use Rattle.xc_expr.proofs.Choices.{both_true, both_false, is_false, then_some_is, both_is, map_is, if_is}
 use Rattle.xc_expr.proofs.KnownNames.{variable_in_range, found_at}
-use Rattle.xc_expr.specs.Variables.{names_of, values_at}
+use Rattle.xc_forms.specs.Variables.{names_of, values_at}
 use Rattle.xc_expr.specs.Tests.{has_value, are_peers}
 use Rattle.xc_expr.specs.Actions.{assigned, assigns, assigns_twice, is_assign_in_range}
 use Rattle.xc_expr.specs.Written.{Assigned, To, Next, Prev, Any}
@@ -16,7 +16,7 @@ use Rattle.xc_expr.specs.Resolving.{variable, value, peer, operand, or_peer, res
 use Rattle.xc_expr.specs.Laws.{KnownActionsAreInRange}
 use Rattle.xc_expr.specs.declared.assign.Assign.{Assign}
 use Rattle.xc_expr.specs.declared.assign.Assign.TheVariants as variants
-use Rattle.xc_expr.specs.declared.domain.Domain.{Domain}
+use Rattle.xc_forms.specs.declared.domain.Domain.{Domain}
 
 -- a variable, a value and a peer that are known are there
 there : (vars : List Domain) (name : List ℕ) (x : ℕ) → variable vars name ≡ Some x → nat_lt x (length vars) ≡ true

@@ -7,10 +7,10 @@ use Rattle.std.proofs.lemmas.List.Sums.{passes_at_first}
 use Rattle.xc_base.specs.Names.{are_same, name_at}
 use Rattle.xc_base.proofs.Naming.{same_bytes, found_in_range}
 use Rattle.xc_expr.proofs.Choices.{and_right}
-use Rattle.xc_expr.specs.Variables.{names_of}
+use Rattle.xc_forms.specs.Variables.{names_of}
 use Rattle.xc_expr.specs.Called.{is_called}
 use Rattle.xc_expr.specs.Resolving.{variable}
-use Rattle.xc_expr.specs.declared.domain.Domain.{Domain}
+use Rattle.xc_forms.specs.declared.domain.Domain.{Domain}
 
 -- where a name stands among the names of variables is where the variable stands
 place_of_variable : (vars : List Domain) (name : List ℕ) → position_or_len (bytes_eq name) (names_of vars) ≡ position_or_len (is_called name) vars

@@ -10,7 +10,8 @@ use Rattle.xc_expr.specs.Laws.{GuardsAreLineParts, ActionsAreLineParts}
 use Rattle.xc_expr.specs.LineParts.{IsLinePart}
 use Rattle.xc_expr.specs.Printing.{guard_tokens}
 use Rattle.xc_expr.specs.Writable.{depth_of}
-use Rattle.xc_expr.specs.Written.{Written, Level, Sum, Product, Basic, IsSpelled, is_variable_name, is_value_name, Assigned, To, Next, Prev, Any, assignment_tokens, action_tokens, has_names}
+use Rattle.xc_expr.specs.Written.{Written, Level, Sum, Product, Basic, IsSpelled, Assigned, To, Next, Prev, Any, assignment_tokens, action_tokens, has_names}
+use Rattle.xc_forms.specs.VariableNames.{is_variable_name, is_value_name}
 use Rattle.xc_expr.specs.Written.IsSpelled.{truth, falsity, equal, unequal, negated, enclosed, factor, and, summand, or}
 use Rattle.xc_expr.proofs.GuardPrints.{printed_sum}
 

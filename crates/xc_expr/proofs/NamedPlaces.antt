@@ -9,12 +9,12 @@ use Rattle.xc_base.specs.Names.{are_same, is_among, has_twice, name_at, place_of
 use Rattle.xc_base.proofs.Naming.{among_at, among_in_range, place_of-name_at, found_in_range}
 use Rattle.xc_expr.proofs.Choices.{then_some_is, if_is}
 use Rattle.xc_expr.proofs.KnownNames.{names_length, found_at}
-use Rattle.xc_expr.specs.Variables.{names_of, values_at, is_domain, are_fit}
+use Rattle.xc_forms.specs.Variables.{names_of, values_at, is_domain, are_fit}
 use Rattle.xc_expr.specs.Tests.{has_value, are_peers}
 use Rattle.xc_expr.specs.Resolving.{variable, value, peer, or_peer, operand}
 use Rattle.xc_expr.specs.Printing.{variable_name, value_name}
 use Rattle.xc_expr.specs.Writable.{is_no_value}
-use Rattle.xc_expr.specs.declared.domain.Domain.{Domain}
+use Rattle.xc_forms.specs.declared.domain.Domain.{Domain}
 
 -- a name among names of which no two are the same is found at its place
 found_there : (names : List (List ℕ)) (i : ℕ) → has_twice names ≡ false → i < length names → position (bytes_eq (name_at names i)) names ≡ Some i

@@ -13,11 +13,11 @@ use Rattle.xc_expr.specs.LineParts.{IsLinePart}
 use Rattle.xc_expr.specs.PrintedTexts.{IsTextOfTest, IsTextOfAssigns}
 use Rattle.xc_expr.specs.Printing.{named_guard, named_action, is_or, is_joined, bracketed, guard_tokens}
 use Rattle.xc_expr.specs.Tests.{Test, is_in_range}
-use Rattle.xc_expr.specs.Variables.{are_fit}
+use Rattle.xc_forms.specs.Variables.{are_fit}
 use Rattle.xc_expr.specs.Writable.{has_fit_names, is_clear, is_writable_guard, is_writable_action}
 use Rattle.xc_expr.specs.Written.{Written, True, False, Equal, Unequal, Not, And, Or, has_names, action_tokens, assignment_tokens, Assigned, To, Next, Prev, Any}
 use Rattle.xc_expr.specs.declared.assign.Assign.{Assign}
-use Rattle.xc_expr.specs.declared.domain.Domain.{Domain}
+use Rattle.xc_forms.specs.declared.domain.Domain.{Domain}
 
 -- tokens, one at least, that can stand in a line are one
 pub part_line : (tokens : List (List ℕ)) → 0 < length tokens → IsLinePart tokens → is_line tokens ≡ true

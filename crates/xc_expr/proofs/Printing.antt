@@ -11,7 +11,7 @@ use Rattle.xc_expr.specs.Written.{Assigned, assignment_tokens, action_tokens}
 use Rattle.xc_expr.specs.Printing.{named_assignment, named_action, bracketed, AreMarked}
 use Rattle.xc_expr.specs.PrintSteps.{only_if, tokens_behind}
 use Rattle.xc_expr.specs.declared.assign.Assign.{Assign}
-use Rattle.xc_expr.specs.declared.domain.Domain.{Domain}
+use Rattle.xc_forms.specs.declared.domain.Domain.{Domain}
 
 -- one token more, and none
 pub texts_more : (xs : List Lexeme) (x : Lexeme) → texts (xs ++ x ∷ []) ≡ texts xs ++ x.text.now ∷ []

@@ -8,7 +8,7 @@ use Rattle.xc_expr.specs.Written.{set}
 use Rattle.xc_expr.specs.Resolving.{set_name, sets_twice, both, resolved_action}
 use Rattle.xc_expr.specs.KnownSettings.{name_set, is_set_in, repeats_first, repeats, resolved_setting, resolves}
 use Rattle.xc_expr.specs.declared.assign.Assign.{Assign}
-use Rattle.xc_expr.specs.declared.domain.Domain.{Domain}
+use Rattle.xc_forms.specs.declared.domain.Domain.{Domain}
 use Rattle.xc_expr.specs.declared.setting.Setting.{Setting}
 
 -- a name is among those that are set

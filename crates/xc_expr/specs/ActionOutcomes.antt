@@ -2,7 +2,7 @@
 use Rattle.std.specs.Prelude.{◌≡◌, true, false, List, Some, None}
 use Rattle.xc_expr.specs.Written.{Assigned}
 use Rattle.xc_expr.specs.Resolving.{resolved_action, sets_twice}
-use Rattle.xc_expr.specs.declared.domain.Domain.{Domain}
+use Rattle.xc_forms.specs.declared.domain.Domain.{Domain}
 use Rattle.xc_expr.specs.declared.assign.Assign.{Assign}
 use Rattle.xc_expr.specs.declared.fault.ExprFault.{ExprFault}
 use Rattle.xc_expr.specs.declared.fault.ExprFault.TheVariants.{Grammar, Repeated, Unknown, Memory}

@@ -3,7 +3,8 @@ use Rattle.std.specs.Prelude.{ℕ, ◌-◌, Bool, false, ◌&&◌, if◌then◌e
 use Rattle.std.specs.List.{slice_index_or}
 use Rattle.std.specs.Option.{option_map}
 use Rattle.std.specs.Str.{bytes_eq}
-use Rattle.xc_expr.specs.Written.{Assigned, To, Next, Prev, Any, is_variable_name, is_value_name, set}
+use Rattle.xc_expr.specs.Written.{Assigned, To, Next, Prev, Any, set}
+use Rattle.xc_forms.specs.VariableNames.{is_variable_name, is_value_name}
 use Rattle.xc_expr.specs.Resolving.{both}
 use Rattle.xc_expr.specs.declared.setting.Setting.{Setting}
 

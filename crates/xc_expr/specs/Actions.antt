@@ -2,7 +2,7 @@
 use Rattle.std.specs.Prelude.{ℕ, Bool, true, false, ◌+◌, ◌%◌, ◌&&◌, ◌||◌, not, ◌==◌, nat_lt, List, [], ◌∷◌, length, Option, Some, None, find, slice_index}
 use Rattle.std.specs.List.{list_all, list_any, range_with_len}
 use Rattle.xc_expr.specs.Tests.{has_value, are_peers}
-use Rattle.xc_expr.specs.declared.domain.Domain.{Domain}
+use Rattle.xc_forms.specs.declared.domain.Domain.{Domain}
 use Rattle.xc_expr.specs.declared.assign.Assign.{Assign}
 use Rattle.xc_expr.specs.declared.assign.Assign.TheVariants.{Value, Copy, Next, Prev, Any}
 

@@ -3,7 +3,8 @@ use Rattle.std.specs.Prelude.{ℕ, zero, suc, if◌then◌else◌, List, [], ◌
 use Rattle.std.specs.Str.{bytes_eq}
 use Rattle.xc_base.specs.Lines.{texts}
 use Rattle.xc_base.specs.Operators.{Front, behind, chained}
-use Rattle.xc_expr.specs.Written.{Written, True, False, Equal, Unequal, Not, And, Or, is_variable_name, is_value_name, written}
+use Rattle.xc_expr.specs.Written.{Written, True, False, Equal, Unequal, Not, And, Or, written}
+use Rattle.xc_forms.specs.VariableNames.{is_variable_name, is_value_name}
 use Rattle.xc_expr.specs.declared.guard_parser.Parsed.{Parsed}
 
 -- a variable with what is asked of it, by the tokens behind its name

@@ -6,7 +6,7 @@ use Rattle.std.specs.Str.{bytes_eq}
 use Rattle.xc_expr.specs.Written.{set}
 use Rattle.xc_expr.specs.Resolving.{set_name, sets_twice, resolved_assignment, resolved_action}
 use Rattle.xc_expr.specs.declared.assign.Assign.{Assign}
-use Rattle.xc_expr.specs.declared.domain.Domain.{Domain}
+use Rattle.xc_forms.specs.declared.domain.Domain.{Domain}
 use Rattle.xc_expr.specs.declared.setting.Setting.{Setting}
 
 -- the name of the variable that a setting sets

@@ -1,7 +1,7 @@
 -- What follows from the definitions, as statements that public functions carry.
 use Rattle.std.specs.Prelude.{◌≡◌, ◌↔◌, ℕ, true, false, List, Some}
 use Rattle.std.specs.List.{list_all}
-use Rattle.xc_expr.specs.Variables.{are_fit}
+use Rattle.xc_forms.specs.Variables.{are_fit}
 use Rattle.xc_expr.specs.Tests.{Test, is_in_range}
 use Rattle.xc_expr.specs.Actions.{is_action_in_range}
 use Rattle.xc_expr.specs.Outcomes.{IsTest, AreAssigns}
@@ -11,7 +11,7 @@ use Rattle.xc_expr.specs.LineParts.{IsLinePart, IsNoLonger}
 use Rattle.xc_expr.specs.Written.{Written, IsGuard, Assigned, IsAction, has_names, action_tokens}
 use Rattle.xc_expr.specs.Resolving.{resolved, resolved_action, sets_twice}
 use Rattle.xc_expr.specs.Reading.{guard_in, action_in}
-use Rattle.xc_expr.specs.declared.domain.Domain.{Domain}
+use Rattle.xc_forms.specs.declared.domain.Domain.{Domain}
 use Rattle.xc_expr.specs.declared.assign.Assign.{Assign}
 
 -- tokens are the guard, or the action, that is read, and no other

@@ -1,4 +1,3 @@
-pub mod Variables
 pub mod Called
 pub mod Tests
 pub mod Actions

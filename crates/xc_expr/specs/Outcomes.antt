@@ -5,7 +5,7 @@ use Rattle.xc_base.specs.declared.lines.Lines.{Lines}
 use Rattle.xc_expr.specs.Tests.{Test}
 use Rattle.xc_expr.specs.Written.{Written, IsGuard, Assigned, IsAction}
 use Rattle.xc_expr.specs.Resolving.{resolved, resolved_action, sets_twice}
-use Rattle.xc_expr.specs.declared.domain.Domain.{Domain}
+use Rattle.xc_forms.specs.declared.domain.Domain.{Domain}
 use Rattle.xc_expr.specs.declared.assign.Assign.{Assign}
 use Rattle.xc_expr.specs.declared.fault.ExprFault.{ExprFault}
 use Rattle.xc_expr.specs.declared.fault.ExprFault.TheVariants.{Grammar, Repeated, Unknown, Memory}

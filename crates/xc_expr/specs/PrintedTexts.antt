@@ -4,7 +4,7 @@ use Rattle.xc_base.specs.Lines.{text_rows}
 use Rattle.xc_expr.specs.Outcomes.{IsTest, AreAssigns}
 use Rattle.xc_expr.specs.Tests.{Test}
 use Rattle.xc_expr.specs.declared.assign.Assign.{Assign}
-use Rattle.xc_expr.specs.declared.domain.Domain.{Domain}
+use Rattle.xc_forms.specs.declared.domain.Domain.{Domain}
 
 -- with a line end the text is one line, and its tokens are the test
 pub record IsTextOfTest (vars : List Domain) (test : Test) (text : List ℕ) : Type 0 where

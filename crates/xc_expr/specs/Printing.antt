@@ -3,11 +3,11 @@ use Rattle.std.specs.Prelude.{◌≡◌, ℕ, Bool, true, false, ◌||◌, List,
 use Rattle.xc_base.specs.Names.{name_at}
 use Rattle.xc_base.specs.Words.{is_word}
 use Rattle.xc_base.specs.declared.lines.Lexeme.{Lexeme}
-use Rattle.xc_expr.specs.Variables.{names_of, values_at}
+use Rattle.xc_forms.specs.Variables.{names_of, values_at}
 use Rattle.xc_expr.specs.Tests.{Test}
 use Rattle.xc_expr.specs.Tests as tests
 use Rattle.xc_expr.specs.Written.{Written, True, False, Equal, Unequal, Not, And, Or, Assigned, To, Next, Prev, Any}
-use Rattle.xc_expr.specs.declared.domain.Domain.{Domain}
+use Rattle.xc_forms.specs.declared.domain.Domain.{Domain}
 use Rattle.xc_expr.specs.declared.assign.Assign.{Assign}
 use Rattle.xc_expr.specs.declared.assign.Assign.TheVariants as assigns
 

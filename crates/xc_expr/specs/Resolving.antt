@@ -4,11 +4,11 @@ use Rattle.std.specs.List.{position}
 use Rattle.std.specs.Option.{option_map}
 use Rattle.std.specs.Str.{bytes_eq}
 use Rattle.xc_base.specs.Names.{are_same, has_twice}
-use Rattle.xc_expr.specs.Variables.{names_of, values_at}
+use Rattle.xc_forms.specs.Variables.{names_of, values_at}
 use Rattle.xc_expr.specs.Tests.{Test}
 use Rattle.xc_expr.specs.Tests as tests
 use Rattle.xc_expr.specs.Written.{Written, True, False, Equal, Unequal, Not, And, Or, Assigned, To, Next, Prev, Any}
-use Rattle.xc_expr.specs.declared.domain.Domain.{Domain}
+use Rattle.xc_forms.specs.declared.domain.Domain.{Domain}
 use Rattle.xc_expr.specs.declared.assign.Assign.{Assign}
 use Rattle.xc_expr.specs.declared.assign.Assign.TheVariants as assigns
 

@@ -1,8 +1,8 @@
 -- What guards say of the places that variables have at a state.
 use Rattle.std.specs.Prelude.{ℕ, Bool, true, false, ◌&&◌, ◌||◌, not, ◌==◌, nat_lt, List, length, slice_index}
 use Rattle.xc_base.specs.Names.{are_same}
-use Rattle.xc_expr.specs.Variables.{values_at}
-use Rattle.xc_expr.specs.declared.domain.Domain.{Domain}
+use Rattle.xc_forms.specs.Variables.{values_at}
+use Rattle.xc_forms.specs.declared.domain.Domain.{Domain}
 use Rattle.xc_expr.specs.declared.guard.Guard.{Guard}
 use Rattle.xc_expr.specs.declared.guard.Guard.TheVariants as guards
 

@@ -2,12 +2,13 @@
 use Rattle.std.specs.Prelude.{ℕ, suc, max, Bool, true, false, ◌&&◌, not, nat_le, List}
 use Rattle.std.specs.List.{list_all}
 use Rattle.xc_base.specs.Names.{is_among}
-use Rattle.xc_expr.specs.Variables.{values_at}
+use Rattle.xc_forms.specs.Variables.{values_at}
 use Rattle.xc_expr.specs.Tests.{Test, True, False, Is, IsNot, Same, Differ, Not, And, Or}
 use Rattle.xc_expr.specs.Written as written
-use Rattle.xc_expr.specs.Written.{Written, is_variable_name, is_value_name, has_names, depth_limit}
+use Rattle.xc_expr.specs.Written.{Written, has_names, depth_limit}
+use Rattle.xc_forms.specs.VariableNames.{is_variable_name, is_value_name}
 use Rattle.xc_expr.specs.Printing.{variable_name, named_guard, named_action, is_or, is_joined}
-use Rattle.xc_expr.specs.declared.domain.Domain.{Domain}
+use Rattle.xc_forms.specs.declared.domain.Domain.{Domain}
 use Rattle.xc_expr.specs.declared.assign.Assign.{Assign}
 use Rattle.xc_expr.specs.declared.assign.Assign.TheVariants.{Copy}
 

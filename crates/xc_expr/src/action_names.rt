@@ -1,12 +1,12 @@
 ghost use Rattle.std.specs.Prelude.{◌≡◌, ◌<◌, true, false, [], map, length, IfOk, IfSome};
-ghost use Rattle.xc_expr.specs.Variables.{are_fit};
+ghost use Rattle.xc_forms.specs.Variables.{are_fit};
 ghost use Rattle.xc_expr.specs.Actions.{is_action_in_range};
 ghost use Rattle.xc_expr.specs.Written.{set};
 ghost use Rattle.xc_expr.specs.Resolving.{operand, resolved_action, sets_twice};
 ghost use Rattle.xc_expr.specs.KnownSettings.{name_set, is_set_in, repeats_first, repeats, resolved_setting, resolves};
 
 use crate::assign::{Action, Assign};
-use crate::domain::Vars;
+use xc_forms::Vars;
 use crate::operands::{peer, value, variable};
 use crate::setting::Setting;
 use std::alloc::Global;

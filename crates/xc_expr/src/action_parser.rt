@@ -8,7 +8,7 @@ ghost use Rattle.xc_expr.specs.Reading.{action_in};
 ghost use Rattle.xc_expr.specs.ActionReading.{is_set, set_to_word, set_by_step, assignment_in, assignments_in, is_skip, is_mark_at, assignment_at, reads_from};
 
 use crate::setting::Setting;
-use crate::words::{is_value_name, is_variable_name};
+use xc_forms::{is_value_name, is_variable_name};
 use std::alloc::Global;
 use xc_base::{Lexeme, List, Memory};
 

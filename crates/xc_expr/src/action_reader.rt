@@ -2,7 +2,7 @@
 
 ghost use Rattle.std.specs.Prelude.{◌≡◌, true, map, IfOk, IfErr};
 ghost use Rattle.xc_base.specs.Lines.{texts};
-ghost use Rattle.xc_expr.specs.Variables.{are_fit};
+ghost use Rattle.xc_forms.specs.Variables.{are_fit};
 ghost use Rattle.xc_expr.specs.Actions.{is_action_in_range};
 ghost use Rattle.xc_expr.specs.Written.{set};
 ghost use Rattle.xc_expr.specs.Outcomes.{AreAssigns, IsActionFault};
@@ -11,7 +11,7 @@ ghost use Rattle.xc_expr.specs.ActionOutcomes.{AreKnown, IsNameFault};
 use crate::action_names::{resolve_action, sets_twice};
 use crate::action_parser::parse_action;
 use crate::assign::Action;
-use crate::domain::Vars;
+use xc_forms::Vars;
 use crate::fault::ExprFault;
 use crate::setting::Setting;
 use std::alloc::Global;

@@ -1,11 +1,11 @@
 ghost use Rattle.std.specs.Prelude.{◌≡◌, ◌<◌, true, length, find};
 ghost use Rattle.xc_theory.specs.Codes.{total, digits, AreDigits};
-ghost use Rattle.xc_expr.specs.Variables.{are_fit, sizes_of};
+ghost use Rattle.xc_forms.specs.Variables.{are_fit, sizes_of};
 ghost use Rattle.xc_expr.specs.Actions.{assigned, assigns, gives, allows, is_assign_in_range, is_action_in_range};
 ghost use Rattle.xc_expr.specs.Moving.{goes_at, goes_from};
 
 use crate::assign::{Action, Assign};
-use crate::domain::Vars;
+use xc_forms::Vars;
 use crate::places::{places_of, size_of};
 
 /// The variable that is assigned.

@@ -1,13 +1,12 @@
-//! Equal guards, actions and variables, with memory of their own.
+//! Equal guards and actions, with memory of their own.
 
 ghost use Rattle.std.specs.Prelude.{◌≡◌, IfOk};
 ghost use Rattle.xc_expr.specs.Tests.{test_of};
 
 use crate::assign::Action;
-use crate::domain::{Domain, Vars};
 use crate::guard::Guard;
 use std::alloc::Global;
-use xc_base::{List, Memory, copy_words};
+use xc_base::{List, Memory};
 
 /// An equal guard.
 pub fn copy_guard(alloc: Global, guard: &Guard) -> Result<Guard, Memory>
@@ -54,30 +53,4 @@ pub fn copy_action(alloc: Global, action: &Action) -> Result<Action, Memory>
     ensures { IfOk result (λ copy. copy ≡ action.now) }
 {
     List::of(alloc, action.as_slice())
-}
-
-/// An equal variable.
-pub fn copy_domain(alloc: Global, domain: &Domain) -> Result<Domain, Memory>
-    ensures { IfOk result (λ copy. copy ≡ domain.now) }
-{
-    let name = domain.name.copy(alloc)?;
-    let values = copy_words(alloc, domain.values.as_slice())?;
-    Ok(Domain { name, values })
-}
-
-fn copy_domains(alloc: Global, domains: &[Domain]) -> Result<Vars, Memory>
-    ensures { IfOk result (λ copies. copies ≡ domains.now) }
-{
-    let mut copies = List::new(alloc);
-    for domain in domains {
-        copies.push(copy_domain(alloc, domain)?)?;
-    }
-    Ok(copies)
-}
-
-/// Equal variables.
-pub fn copy_vars(alloc: Global, vars: &Vars) -> Result<Vars, Memory>
-    ensures { IfOk result (λ copy. copy ≡ vars.now) }
-{
-    copy_domains(alloc, vars.as_slice())
 }

@@ -2,12 +2,12 @@
 
 ghost use Rattle.std.specs.Prelude.{◌≡◌, true, IfOk, IfSome};
 ghost use Rattle.std.specs.Option.{option_map};
-ghost use Rattle.xc_expr.specs.Variables.{are_fit};
+ghost use Rattle.xc_forms.specs.Variables.{are_fit};
 ghost use Rattle.xc_expr.specs.Tests.{test_of, is_in_range, Is, IsNot, Same, Differ, Not, And, Or};
 ghost use Rattle.xc_expr.specs.Written.{written};
 ghost use Rattle.xc_expr.specs.Resolving.{resolved, then_some, both, variable, operand};
 
-use crate::domain::Vars;
+use xc_forms::Vars;
 use crate::guard::Guard;
 use crate::operands::{peer, value, variable};
 use crate::phrase::Phrase;

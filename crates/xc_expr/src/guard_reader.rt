@@ -2,11 +2,11 @@
 
 ghost use Rattle.std.specs.Prelude.{◌≡◌, true, IfOk, IfErr};
 ghost use Rattle.xc_base.specs.Lines.{texts};
-ghost use Rattle.xc_expr.specs.Variables.{are_fit};
+ghost use Rattle.xc_forms.specs.Variables.{are_fit};
 ghost use Rattle.xc_expr.specs.Tests.{test_of, is_in_range};
 ghost use Rattle.xc_expr.specs.Outcomes.{IsTest, IsGuardFault};
 
-use crate::domain::Vars;
+use xc_forms::Vars;
 use crate::fault::ExprFault;
 use crate::guard::Guard;
 use crate::guard_names::resolve_guard;

@@ -1,9 +1,9 @@
 ghost use Rattle.std.specs.Prelude.{◌≡◌, ◌<◌, true, length};
 ghost use Rattle.xc_theory.specs.Codes.{total, digits};
-ghost use Rattle.xc_expr.specs.Variables.{are_fit, sizes_of};
+ghost use Rattle.xc_forms.specs.Variables.{are_fit, sizes_of};
 ghost use Rattle.xc_expr.specs.Tests.{test_of, is_in_range, holds_at};
 
-use crate::domain::Vars;
+use xc_forms::Vars;
 use crate::guard::Guard;
 use crate::places::places_of;
 

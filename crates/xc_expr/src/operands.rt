@@ -4,10 +4,10 @@ ghost use Rattle.std.specs.Prelude.{◌≡◌, ◌<◌, true, length, IfSome};
 ghost use Rattle.std.specs.List.{position};
 ghost use Rattle.xc_expr.specs.Called.{is_called};
 ghost use Rattle.xc_base.specs.Names.{are_same};
-ghost use Rattle.xc_expr.specs.Variables.{are_fit, values_at};
+ghost use Rattle.xc_forms.specs.Variables.{are_fit, values_at};
 ghost use Rattle.xc_expr.specs.Resolving.{variable, value, peer};
 
-use crate::domain::{Domain, Vars};
+use xc_forms::{Domain, Vars};
 use xc_base::{Word, find_name};
 
 fn is_called(domain: &Domain, name: &[u8]) -> bool

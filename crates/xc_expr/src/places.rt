@@ -1,8 +1,8 @@
 ghost use Rattle.std.specs.Prelude.{◌≡◌, ◌<◌, ◌≤◌, true, take, length, slice_index};
 ghost use Rattle.xc_theory.specs.Codes.{total, digits};
-ghost use Rattle.xc_expr.specs.Variables.{are_fit, sizes_of};
+ghost use Rattle.xc_forms.specs.Variables.{are_fit, sizes_of};
 
-use crate::domain::Vars;
+use xc_forms::Vars;
 
 /// How many values a variable has.
 pub(crate) fn size_of(vars: &Vars, place: usize) -> u32

@@ -4,8 +4,8 @@ ghost use Rattle.std.specs.Prelude.{◌≡◌, ◌<◌, ◌++◌, ◌∷◌, [],
 ghost use Rattle.std.specs.List.{list_all};
 ghost use Rattle.xc_base.specs.Canonical.{spaced};
 ghost use Rattle.xc_base.specs.Lines.{texts};
-ghost use Rattle.xc_expr.specs.Variables.{are_fit, values_at};
-ghost use Rattle.xc_expr.specs.declared.domain.Domain.{Domain};
+ghost use Rattle.xc_forms.specs.Variables.{are_fit, values_at};
+ghost use Rattle.xc_forms.specs.declared.domain.Domain.{Domain};
 ghost use Rattle.xc_expr.specs.Tests.{test_of, is_in_range};
 ghost use Rattle.xc_expr.specs.Actions.{is_assign_in_range, is_action_in_range};
 ghost use Rattle.xc_expr.specs.Written.{assignment_tokens, action_tokens};
@@ -15,7 +15,7 @@ ghost use Rattle.xc_expr.specs.PrintedTexts.{IsTextOfTest, IsTextOfAssigns};
 ghost use Rattle.xc_expr.specs.Writable.{is_writable_guard, is_writable_action};
 
 use crate::assign::{Action, Assign};
-use crate::domain::Vars;
+use xc_forms::Vars;
 use crate::guard::Guard;
 use std::alloc::Global;
 use xc_base::{Bytes, Lexeme, List, Memory, is_word_text, spaced};

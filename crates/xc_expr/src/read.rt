@@ -1,13 +1,13 @@
 ghost use Rattle.std.specs.Prelude.{◌≡◌, ◌<◌, ◌≤◌, true, length, IfOk, IfErr};
 ghost use Rattle.xc_base.specs.Lines.{rows_in, row_at};
-ghost use Rattle.xc_expr.specs.Variables.{are_fit};
+ghost use Rattle.xc_forms.specs.Variables.{are_fit};
 ghost use Rattle.xc_expr.specs.Tests.{test_of, is_in_range};
 ghost use Rattle.xc_expr.specs.Actions.{is_action_in_range};
 ghost use Rattle.xc_expr.specs.Outcomes.{tokens_at, IsTest, IsGuardFault, AreAssigns, IsActionFault};
 
 use crate::action_reader::action_of;
 use crate::assign::Action;
-use crate::domain::Vars;
+use xc_forms::Vars;
 use crate::fault::ExprFault;
 use crate::guard::Guard;
 use crate::guard_reader::guard_of;

@@ -9,8 +9,8 @@ use Rattle.xc_base.specs.Lines.{text_rows}
 use Rattle.xc_base.specs.Names.{are_same}
 use Rattle.xc_base.specs.Text.{text_fault}
 use Rattle.xc_base.specs.declared.fault.FileFault.{FileFault}
-use Rattle.xc_expr.specs.Variables.{sizes_of}
-use Rattle.xc_expr.specs.declared.domain.Domain.{Domain}
+use Rattle.xc_forms.specs.Variables.{sizes_of}
+use Rattle.xc_forms.specs.declared.domain.Domain.{Domain}
 use Rattle.xc_lattice.specs.LatticeFiles.{LatticeValue}
 use Rattle.xc_view.specs.ViewFiles as views
 use Rattle.xc_view.specs.Deciding as view_lines

@@ -7,9 +7,9 @@ use Rattle.std.proofs.lemmas.List.{drop_all, length-map}
 use Rattle.xc_theory.specs.Codes.{total, digits, code_of, AreDigits}
 use Rattle.xc_theory.proofs.Codes.{digits_are_in_range, digits_of_codes, codes_of_digits}
 use Rattle.xc_base.proofs.Naming.{same_bytes}
-use Rattle.xc_expr.specs.Variables.{sizes_of}
+use Rattle.xc_forms.specs.Variables.{sizes_of}
 use Rattle.xc_expr.specs.Tests.{holds_at}
-use Rattle.xc_expr.specs.declared.domain.Domain.{Domain}
+use Rattle.xc_forms.specs.declared.domain.Domain.{Domain}
 use Rattle.xc_sigmap.specs.MapFiles.{MapValue}
 use Rattle.xc_merge.specs.Merges.{Viewpoint}
 use Rattle.xc_merge.specs.Projections.{source, carried, place_seen, row_seen, row_of, states_of, projection}

@@ -10,7 +10,7 @@ use Rattle.xc_base.specs.Names.{are_same}
 use Rattle.xc_base.specs.Text.{text_fault}
 use Rattle.xc_base.specs.declared.fault.TextFault.{TextFault}
 use Rattle.xc_base.specs.declared.fault.FileFault.{FileFault}
-use Rattle.xc_expr.specs.Variables.{sizes_of}
+use Rattle.xc_forms.specs.Variables.{sizes_of}
 use Rattle.xc_view.specs.ViewFiles as views
 use Rattle.xc_view.proofs.Verdicts.{view_accepted}
 use Rattle.xc_sigmap.specs.MapFiles as maps

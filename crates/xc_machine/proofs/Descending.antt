@@ -7,8 +7,8 @@ use Rattle.std.proofs.lemmas.List.{take_more_set, map_more, take_all, length-map
 use Rattle.std.proofs.lemmas.List.FromFn.{length-range_with_len}
 use Rattle.xc_theory.specs.Codes.{total, AreDigits}
 use Rattle.xc_expr.specs.Tests.{holds_at}
-use Rattle.xc_expr.specs.Variables.{sizes_of}
-use Rattle.xc_expr.specs.declared.domain.Domain.{Domain}
+use Rattle.xc_forms.specs.Variables.{sizes_of}
+use Rattle.xc_forms.specs.declared.domain.Domain.{Domain}
 use Rattle.xc_expr.proofs.Moving.{sizes_length}
 use Rattle.xc_sigmap.specs.MapFiles.{MapValue}
 use Rattle.xc_merge.specs.Merges.{Merge, Viewpoint, viewpoint_at}

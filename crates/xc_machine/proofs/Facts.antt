@@ -6,7 +6,7 @@ use Rattle.xc_theory.proofs.Facts.{two, chain, diamond}
 use Rattle.xc_alg.specs.Products.{product}
 use Rattle.xc_lattice.specs.LatticeFiles.{LatticeValue}
 use Rattle.xc_expr.specs.Tests as tests
-use Rattle.xc_expr.specs.declared.domain.Domain.{Domain}
+use Rattle.xc_forms.specs.declared.domain.Domain.{Domain}
 use Rattle.xc_expr.specs.declared.guard.Guard.TheVariants as guards
 use Rattle.xc_expr.specs.declared.assign.Assign.TheVariants as assigns
 use Rattle.xc_view.specs.declared.lines.PropLine.{PropLine}

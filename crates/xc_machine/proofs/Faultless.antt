@@ -6,7 +6,7 @@ use Rattle.std.proofs.lemmas.Bool.{and_from, and_parts, cases_eq}
 use Rattle.std.proofs.lemmas.Option.{none-some, same_Some}
 use Rattle.xc_base.specs.Names.{is_among, place_of, name_at}
 use Rattle.xc_base.proofs.Naming.{among_in_range}
-use Rattle.xc_expr.specs.declared.domain.Domain.{Domain}
+use Rattle.xc_forms.specs.declared.domain.Domain.{Domain}
 use Rattle.xc_sigmap.specs.MapFiles.{MapValue}
 use Rattle.xc_sigmap.specs.declared.parts.Tell.{Tell}
 use Rattle.xc_sigmap.specs.declared.parts.Told.{Told}

@@ -6,8 +6,8 @@ use Rattle.std.proofs.lemmas.List.{get_or-map, length-map, drop_more}
 use Rattle.std.proofs.Math.Seq.{drop-length}
 use Rattle.xc_theory.specs.Codes.{AreDigits}
 use Rattle.xc_alg.specs.Operations.{Operations}
-use Rattle.xc_expr.specs.Variables.{sizes_of}
-use Rattle.xc_expr.specs.declared.domain.Domain.{Domain}
+use Rattle.xc_forms.specs.Variables.{sizes_of}
+use Rattle.xc_forms.specs.declared.domain.Domain.{Domain}
 use Rattle.xc_expr.proofs.Moving.{digits_length, sizes_length}
 use Rattle.xc_machine.specs.Joins.{both, picked, joined_onto, joined_from}
 use Rattle.xc_machine.specs.Tabled.{AreWeights}

@@ -8,7 +8,7 @@ use Rattle.xc_theory.proofs.Codes.{digits_are_in_range}
 use Rattle.xc_alg.specs.AnyTables.{lattice_in_any}
 use Rattle.xc_alg.specs.Products.{product, sizes}
 use Rattle.xc_alg.proofs.Tables.{product_size}
-use Rattle.xc_expr.specs.Variables.{sizes_of}
+use Rattle.xc_forms.specs.Variables.{sizes_of}
 use Rattle.xc_lattice.specs.Values.{value_of as lattice_of}
 use Rattle.xc_lattice.specs.declared.lattice.Lattice.{Lattice}
 use Rattle.xc_view.specs.declared.view.View.{View}
@@ -23,7 +23,7 @@ use Rattle.xc_merge.specs.Faults.{all_faults, merge_fault}
 use Rattle.xc_merge.specs.declared.fault.MergeFault.TheVariants.{Elements, NoInitial, Initial}
 use Rattle.xc_expr.specs.Tests.{holds_at}
 use Rattle.xc_view.specs.Views.{value_of as view_of}
-use Rattle.xc_expr.specs.declared.domain.Domain.{Domain}
+use Rattle.xc_forms.specs.declared.domain.Domain.{Domain}
 use Rattle.xc_machine.specs.Tabled.{AreTables, AreWeights}
 use Rattle.xc_machine.specs.Gathering.{AreTabled, operations, names_in}
 use Rattle.xc_machine.specs.declared.tables.Tables.{Tables}

@@ -5,8 +5,8 @@ use Rattle.std.specs.List.{list_all}
 use Rattle.std.proofs.lemmas.Bool.{and_parts, leb-true}
 use Rattle.std.proofs.lemmas.List.{take_more_set, map_more, take_all, length-map, get_or-map, get_or_read, ext_get_or}
 use Rattle.xc_theory.specs.Codes.{AreDigits}
-use Rattle.xc_expr.specs.Variables.{sizes_of, values_at, are_fit, is_domain}
-use Rattle.xc_expr.specs.declared.domain.Domain.{Domain}
+use Rattle.xc_forms.specs.Variables.{sizes_of, values_at, are_fit, is_domain}
+use Rattle.xc_forms.specs.declared.domain.Domain.{Domain}
 use Rattle.xc_expr.proofs.Moving.{digits_length, sizes_length}
 use Rattle.xc_sigmap.specs.MapFiles.{MapValue}
 use Rattle.xc_merge.specs.Merges.{Viewpoint}

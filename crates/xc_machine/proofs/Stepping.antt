@@ -20,7 +20,7 @@ use Rattle.xc_base.specs.Names.{is_among, place_of}
 use Rattle.xc_base.proofs.Naming.{among_in_range, same_bytes, bytes_refl}
 use Rattle.xc_expr.specs.Tests.{holds_at}
 use Rattle.xc_expr.specs.Actions.{allows}
-use Rattle.xc_expr.specs.Variables.{sizes_of}
+use Rattle.xc_forms.specs.Variables.{sizes_of}
 use Rattle.xc_view.specs.ViewFiles.{ViewValue, PropValue, CommandValue}
 use Rattle.xc_view.specs.Parts.{prop_value, command_value}
 use Rattle.xc_view.specs.Meaning.{row_at, leads, step_words, tells, prop_words, join_named}

@@ -11,8 +11,8 @@ use Rattle.xc_alg.specs.Operations.{Operations}
 use Rattle.xc_alg.specs.Bounds.{joined, AreElements}
 use Rattle.xc_base.specs.Names.{is_among, place_of}
 use Rattle.xc_base.proofs.Naming.{among_in_range}
-use Rattle.xc_expr.specs.Variables.{values_at}
-use Rattle.xc_expr.specs.declared.domain.Domain.{Domain}
+use Rattle.xc_forms.specs.Variables.{values_at}
+use Rattle.xc_forms.specs.declared.domain.Domain.{Domain}
 use Rattle.xc_view.specs.ViewFiles.{PropValue}
 use Rattle.xc_view.specs.Parts.{prop_value, command_value}
 use Rattle.xc_view.specs.declared.lines.PropLine.{PropLine}

@@ -3,7 +3,7 @@ use Rattle.std.specs.Prelude.{ℕ, Bool, ◌&&◌, if◌then◌else◌, List, []
 use Rattle.xc_alg.specs.Operations.{Operations}
 use Rattle.xc_expr.specs.Tests.{test_of, is_in_range, holds_at}
 use Rattle.xc_expr.specs.Actions.{allows, is_action_in_range}
-use Rattle.xc_expr.specs.declared.domain.Domain.{Domain}
+use Rattle.xc_forms.specs.declared.domain.Domain.{Domain}
 use Rattle.xc_view.specs.declared.lines.PropLine.{PropLine}
 use Rattle.xc_view.specs.declared.lines.Command.{Command}
 

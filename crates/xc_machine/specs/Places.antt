@@ -2,7 +2,7 @@
 use Rattle.std.specs.Prelude.{ℕ, []}
 use Rattle.std.specs.List.{slice_index_or}
 use Rattle.xc_expr.specs.Tests as tests
-use Rattle.xc_expr.specs.declared.domain.Domain.{Domain}
+use Rattle.xc_forms.specs.declared.domain.Domain.{Domain}
 use Rattle.xc_view.specs.ViewFiles.{ViewValue, PropValue, CommandValue}
 
 -- the variable, the command and the line of a proposition at a place

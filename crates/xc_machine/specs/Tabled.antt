@@ -6,8 +6,8 @@ use Rattle.xc_theory.specs.Lattices.{IsLawful, size, bottom}
 use Rattle.xc_lattice.specs.LatticeFiles.{LatticeValue}
 use Rattle.xc_alg.specs.AnyTables.{lattice_in_any}
 use Rattle.xc_base.specs.Names.{is_among, has_twice}
-use Rattle.xc_expr.specs.Variables.{values_at}
-use Rattle.xc_expr.specs.declared.domain.Domain.{Domain}
+use Rattle.xc_forms.specs.Variables.{values_at}
+use Rattle.xc_forms.specs.declared.domain.Domain.{Domain}
 use Rattle.xc_view.specs.ViewFiles.{PropValue}
 use Rattle.xc_sigmap.specs.MapFiles.{MapValue}
 use Rattle.xc_merge.specs.Merges.{Viewpoint}

@@ -2,11 +2,12 @@
 
 ghost use Rattle.std.specs.Prelude.{◌≡◌, ◌<◌, true, length};
 ghost use Rattle.xc_theory.specs.Codes.{total, code_of, AreDigits};
-ghost use Rattle.xc_expr.specs.Variables.{are_fit, sizes_of};
+ghost use Rattle.xc_forms.specs.Variables.{are_fit, sizes_of};
 ghost use Rattle.xc_sigmap.specs.Maps.{value_of as map_of};
 
 use crate::merged::Merged;
-use xc_expr::{Vars, places_of};
+use xc_expr::places_of;
+use xc_forms::Vars;
 
 /// The state of some places of variables.
 pub(crate) fn code_in(vars: &Vars, row: &[u8]) -> u32

@@ -2,7 +2,7 @@
 
 ghost use Rattle.std.specs.Prelude.{◌≡◌, ◌<◌, length, IfSome};
 ghost use Rattle.xc_theory.specs.Lattices.{size};
-ghost use Rattle.xc_expr.specs.Variables.{values_at};
+ghost use Rattle.xc_forms.specs.Variables.{values_at};
 ghost use Rattle.xc_merge.specs.Merges.{viewpoint_at};
 ghost use Rattle.xc_merge.specs.Pieces.{weight, mark, counts, fixed, stutter};
 ghost use Rattle.xc_merge.specs.Projections.{source, carried};

@@ -2,7 +2,7 @@
 
 ghost use Rattle.std.specs.Prelude.{◌≡◌, ◌<◌, ◌≤◌, ℕ, true, length, slice_index, IfOk};
 ghost use Rattle.xc_base.specs.Names.{place_of};
-ghost use Rattle.xc_expr.specs.Variables.{values_at};
+ghost use Rattle.xc_forms.specs.Variables.{values_at};
 ghost use Rattle.xc_sigmap.specs.Maps.{value_of as map_of};
 ghost use Rattle.xc_merge.specs.Faults.{is_fed};
 ghost use Rattle.xc_merge.specs.Projections.{carried_place};
@@ -11,7 +11,7 @@ ghost use Rattle.xc_machine.specs.Tabled.{AreFed, AreFeeds, IsFeed};
 use crate::tables::Feed;
 use std::alloc::Global;
 use xc_base::{List, Memory, Word, find_name};
-use xc_expr::{Domain, Vars};
+use xc_forms::{Domain, Vars};
 use xc_merge::{carried_word, line_for};
 use xc_sigmap::{SendLine, SigMap};
 

@@ -4,7 +4,7 @@
 ghost use Rattle.std.specs.Prelude.{◌≡◌, ◌+◌, ◌<◌, ◌≤◌, ◌++◌, ◌^◌, length, take, IfOk, OnOk};
 ghost use Rattle.std.specs.List.{range_with_len};
 ghost use Rattle.xc_theory.specs.Codes.{AreDigits};
-ghost use Rattle.xc_expr.specs.Variables.{sizes_of};
+ghost use Rattle.xc_forms.specs.Variables.{sizes_of};
 ghost use Rattle.xc_sigmap.specs.Maps.{value_of as map_of};
 ghost use Rattle.xc_machine.specs.Descent.{known_by};
 

@@ -4,12 +4,13 @@ ghost use Rattle.std.specs.Prelude.{◌≡◌, ◌≤◌, ◌<◌, ◌&&◌, tru
 ghost use Rattle.std.specs.List.{list_all};
 ghost use Rattle.xc_theory.specs.Codes.{AreDigits};
 ghost use Rattle.xc_alg.specs.Products.{product};
-ghost use Rattle.xc_expr.specs.Variables.{are_fit, sizes_of};
+ghost use Rattle.xc_forms.specs.Variables.{are_fit, sizes_of};
 ghost use Rattle.xc_machine.specs.Joins.{both, has_action_in, has_guard_in, has_test_in, holds_there, joined_from, leads_to};
 ghost use Rattle.xc_machine.specs.Tabled.{AreWeights};
 
 use xc_alg::Algebra;
-use xc_expr::{Vars, holds_in, moves_in};
+use xc_expr::{holds_in, moves_in};
+use xc_forms::Vars;
 use xc_view::{Command, PropLine};
 
 /// A code joined with a weight that passes.

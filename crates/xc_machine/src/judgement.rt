@@ -4,7 +4,8 @@ ghost use Rattle.std.specs.Prelude.{◌≡◌, ◌&&◌, true, length};
 ghost use Rattle.xc_expr.specs.Tests.{test_of, is_in_range};
 ghost use Rattle.xc_machine.specs.Judging.{said, opposite, in_both, in_one, judged};
 
-use xc_expr::{Guard, Vars};
+use xc_expr::Guard;
+use xc_forms::Vars;
 
 /// What is said where not all places are known.
 #[derive(Clone, Copy, Debug, PartialEq, Eq)]

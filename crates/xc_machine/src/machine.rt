@@ -42,7 +42,7 @@ pub struct Machine {
 impl Machine {
     ghost use Rattle.std.specs.Prelude.{IfOk, IfErr, []};
     ghost use Rattle.xc_alg.specs.Products.{product};
-    ghost use Rattle.xc_expr.specs.Variables.{sizes_of};
+    ghost use Rattle.xc_forms.specs.Variables.{sizes_of};
     ghost use Rattle.xc_lattice.specs.Values.{value_of as lattice_of};
     ghost use Rattle.xc_view.specs.Views.{value_of as view_of};
     ghost use Rattle.xc_sigmap.specs.Maps.{value_of as map_of};

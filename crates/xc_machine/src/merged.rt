@@ -4,7 +4,7 @@ ghost use Rattle.std.specs.Prelude.{◌≡◌, ◌<◌, ◌≤◌, ◌==◌, ℕ
 ghost use Rattle.std.specs.List.{slice_index_or};
 ghost use Rattle.xc_theory.specs.Codes.{AreDigits};
 ghost use Rattle.xc_theory.specs.Lattices.{size};
-ghost use Rattle.xc_expr.specs.Variables.{sizes_of};
+ghost use Rattle.xc_forms.specs.Variables.{sizes_of};
 ghost use Rattle.xc_sigmap.specs.Maps.{value_of as map_of};
 ghost use Rattle.xc_lattice.specs.declared.lattice.Lattice.{Lattice as Algebraic};
 ghost use Rattle.xc_view.specs.declared.view.View.{View as Viewed};
@@ -20,7 +20,7 @@ use crate::joins::{prop_join, step_join};
 use crate::seen::places_seen;
 use crate::tables::Tables;
 use xc_base::List;
-use xc_expr::state_count;
+use xc_forms::state_count;
 use xc_lattice::Lattice;
 use xc_sigmap::SigMap;
 use xc_view::View;

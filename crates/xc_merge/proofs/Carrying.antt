@@ -3,8 +3,8 @@ use Rattle.std.proofs.Common.{◌≡◌, ℕ, suc, ◌+◌, ◌-◌, ◌<◌, �
 use Rattle.std.proofs.lemmas.Bool.{and_parts, ltb-true}
 use Rattle.std.specs.List.{list_all, find, flat_map, range_with_len}
 use Rattle.xc_base.specs.Names.{is_among}
-use Rattle.xc_expr.specs.Variables.{values_at}
-use Rattle.xc_expr.specs.declared.domain.Domain.{Domain}
+use Rattle.xc_forms.specs.Variables.{values_at}
+use Rattle.xc_forms.specs.declared.domain.Domain.{Domain}
 use Rattle.xc_sigmap.specs.MapFiles.{MapValue}
 use Rattle.xc_sigmap.specs.Sound.{is_sound, is_send_in}
 use Rattle.xc_sigmap.specs.declared.parts.SendLine.{SendLine}

@@ -7,7 +7,7 @@ use Rattle.xc_lattice.specs.Values.{value_of as lattice_of}
 use Rattle.xc_lattice.specs.declared.lattice.Lattice.{Lattice}
 use Rattle.xc_expr.specs.Tests as tests
 use Rattle.xc_expr.specs.declared.assign.Assign.TheVariants as assigns
-use Rattle.xc_expr.specs.declared.domain.Domain.{Domain}
+use Rattle.xc_forms.specs.declared.domain.Domain.{Domain}
 use Rattle.xc_view.specs.ViewFiles.{ViewValue, PropValue}
 use Rattle.xc_view.specs.Views.{value_of as view_of}
 use Rattle.xc_view.specs.declared.view.View.{View}

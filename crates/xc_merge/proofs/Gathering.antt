@@ -4,7 +4,7 @@ use Rattle.std.specs.List.{filter, find, flat_map, range_with_len}
 use Rattle.std.specs.Option.{is_none}
 use Rattle.std.specs.Result.{IsErrAnd}
 use Rattle.xc_base.specs.Names.{name_at}
-use Rattle.xc_expr.specs.declared.domain.Domain.{Domain}
+use Rattle.xc_forms.specs.declared.domain.Domain.{Domain}
 use Rattle.xc_expr.specs.Called.{is_called}
 use Rattle.xc_view.specs.ViewFiles.{PropValue, CommandValue, ViewValue}
 use Rattle.xc_view.specs.Parts.{prop_value, command_value}

@@ -3,9 +3,9 @@ use Rattle.std.proofs.Common.{◌≡◌, ℕ, Bool, true, false, not, cond, ◌|
 use Rattle.std.specs.List.{flat_map, filter, find}
 use Rattle.std.specs.Str.{bytes_eq}
 use Rattle.xc_base.specs.Names.{is_among}
-use Rattle.xc_expr.specs.Variables.{names_of}
+use Rattle.xc_forms.specs.Variables.{names_of}
 use Rattle.xc_expr.specs.Called.{is_called}
-use Rattle.xc_expr.specs.declared.domain.Domain.{Domain}
+use Rattle.xc_forms.specs.declared.domain.Domain.{Domain}
 use Rattle.xc_merge.specs.Faults.{missing, values_of, values_named}
 use Rattle.xc_merge.specs.declared.fault.MergeFault.{MergeFault}
 

@@ -5,9 +5,9 @@ use Rattle.std.specs.Option.{is_none}
 use Rattle.xc_theory.specs.Codes.{total}
 use Rattle.xc_alg.specs.Products.{sizes}
 use Rattle.xc_base.specs.Names.{is_among, name_at}
-use Rattle.xc_expr.specs.Variables.{names_of, values_at}
+use Rattle.xc_forms.specs.Variables.{names_of, values_at}
 use Rattle.xc_expr.specs.Called.{is_called}
-use Rattle.xc_expr.specs.declared.domain.Domain.{Domain}
+use Rattle.xc_forms.specs.declared.domain.Domain.{Domain}
 use Rattle.xc_view.specs.ViewFiles.{ViewValue, PropValue, CommandValue}
 use Rattle.xc_sigmap.specs.MapFiles.{MapValue}
 use Rattle.xc_sigmap.specs.declared.parts.Carry.{Carry}

@@ -3,8 +3,8 @@ use Rattle.std.specs.Prelude.{◌≡◌, ℕ, Bool, ◌-◌, if◌then◌else◌
 use Rattle.std.specs.List.{flat_map, list_all, range_with_len}
 use Rattle.std.specs.Option.{is_none}
 use Rattle.xc_base.specs.Names.{is_among, name_at}
-use Rattle.xc_expr.specs.Variables.{values_at}
-use Rattle.xc_expr.specs.declared.domain.Domain.{Domain}
+use Rattle.xc_forms.specs.Variables.{values_at}
+use Rattle.xc_forms.specs.declared.domain.Domain.{Domain}
 use Rattle.xc_view.specs.ViewFiles.{ViewValue}
 use Rattle.xc_view.specs.declared.lines.PropLine.{PropLine}
 use Rattle.xc_view.specs.declared.lines.Command.{Command}

@@ -3,8 +3,8 @@ use Rattle.std.specs.Prelude.{ℕ, Bool, ◌&&◌, ◌==◌, List, map, find, sl
 use Rattle.std.specs.Str.{bytes_eq}
 use Rattle.xc_theory.specs.Codes.{total, digits, code_of}
 use Rattle.xc_base.specs.Names.{name_at, place_of}
-use Rattle.xc_expr.specs.Variables.{sizes_of, values_at}
-use Rattle.xc_expr.specs.declared.domain.Domain.{Domain}
+use Rattle.xc_forms.specs.Variables.{sizes_of, values_at}
+use Rattle.xc_forms.specs.declared.domain.Domain.{Domain}
 use Rattle.xc_sigmap.specs.MapFiles.{MapValue}
 use Rattle.xc_sigmap.specs.declared.parts.Carry.{Carry}
 use Rattle.xc_sigmap.specs.declared.parts.SendLine.{SendLine}

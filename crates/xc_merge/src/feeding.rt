@@ -2,7 +2,7 @@
 
 ghost use Rattle.std.specs.Prelude.{◌≡◌, ◌<◌, ◌==◌, ◌-◌, length, find, None};
 ghost use Rattle.std.specs.Option.{option_copied, is_none};
-ghost use Rattle.xc_expr.specs.Variables.{values_at};
+ghost use Rattle.xc_forms.specs.Variables.{values_at};
 ghost use Rattle.xc_sigmap.specs.Maps.{value_of as map_of};
 ghost use Rattle.xc_merge.specs.Projections.{sends, line_for, pair_for, carried_word};
 ghost use Rattle.xc_merge.specs.MergedFrames.{tells_of, line_of};
@@ -12,7 +12,7 @@ ghost use Rattle.xc_merge.specs.Finding.{Finds, carries_from, unfed_by, unfed, u
 use crate::fault::MergeFault;
 use std::alloc::Global;
 use xc_base::{Word, is_among};
-use xc_expr::Domain;
+use xc_forms::Domain;
 use xc_sigmap::{Carry, SendLine, SigMap, Tell};
 
 fn is_line_for(line: &SendLine, number: usize, name: &Word) -> bool

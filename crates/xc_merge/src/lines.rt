@@ -15,7 +15,7 @@ use crate::fault::MergeFault;
 use crate::words::{look_for_name, look_for_pairs, look_for_value};
 use std::alloc::Global;
 use xc_base::{List, Word};
-use xc_expr::Domain;
+use xc_forms::Domain;
 use xc_lattice::Lattice;
 use xc_sigmap::{SendLine, Stutter, Tell, Told};
 use xc_view::{PropLine, View};

@@ -23,7 +23,7 @@ use Rattle.xc_sigmap.specs.declared.parts.Told.TheVariants.{Named, Constant}
 use Rattle.xc_sigmap.specs.Drafts.{IsFair}
 use Rattle.xc_sigmap.proofs.Fair.{none_is_fair, next_is_fair}
 use Rattle.xc_sigmap.proofs.Sound.{map_is_sound}
-use Rattle.xc_expr.specs.Variables.{are_fit}
+use Rattle.xc_forms.specs.Variables.{are_fit}
 use Rattle.xc_merge.specs.Merges.{Merge, Viewpoint, nobody, viewpoint_at, for_each, parts_of, names_of_parts}
 use Rattle.xc_merge.specs.MergedFrames.{merged_frame, initials_of, step_digit, prop_digit, digit_by, digit_told, line_of}
 use Rattle.xc_merge.specs.Pieces.{fixed_by, constant_told}

@@ -2,8 +2,8 @@
 use Rattle.std.proofs.Common.{◌≡◌, ℕ, zero, suc, ◌+◌, ◌<◌, List, [], ◌∷◌, ◌++◌, length, get_or, drop, add-one, append_assoc, append-nil, refl, sym, ◌∙◌, ap, arith}
 use Rattle.std.specs.List.{range_with_len, flat_map}
 use Rattle.xc_theory.specs.Codes.{AreDigits}
-use Rattle.xc_expr.specs.Variables.{sizes_of}
-use Rattle.xc_expr.specs.declared.domain.Domain.{Domain}
+use Rattle.xc_forms.specs.Variables.{sizes_of}
+use Rattle.xc_forms.specs.declared.domain.Domain.{Domain}
 use Rattle.xc_report.specs.Reports.{places_text}
 use Rattle.xc_report.specs.Pieces.{place_text}
 use Rattle.std.proofs.Math.Seq.{drop-length}

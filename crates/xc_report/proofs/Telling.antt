@@ -7,8 +7,8 @@ use Rattle.xc_base.specs.Names.{name_at}
 use Rattle.xc_theory.specs.Codes.{digits, AreDigits}
 use Rattle.xc_theory.proofs.Codes.{digits_are_in_range}
 use Rattle.xc_alg.specs.Products.{product, sizes}
-use Rattle.xc_expr.specs.Variables.{sizes_of}
-use Rattle.xc_expr.specs.declared.domain.Domain.{Domain}
+use Rattle.xc_forms.specs.Variables.{sizes_of}
+use Rattle.xc_forms.specs.declared.domain.Domain.{Domain}
 use Rattle.xc_merge.specs.Merges.{Merge, Viewpoint, nobody, viewpoint_at, parts_of}
 use Rattle.xc_merge.specs.Projections.{states_of, row_of}
 use Rattle.xc_merge.specs.MergedFrames.{merged_frame, initials_of, is_merged_initial}

@@ -4,7 +4,7 @@ use Rattle.std.specs.Fmt.{decimal}
 use Rattle.xc_theory.specs.Codes.{digits}
 use Rattle.xc_alg.specs.Products.{sizes}
 use Rattle.xc_base.specs.Names.{name_at}
-use Rattle.xc_expr.specs.declared.domain.Domain.{Domain}
+use Rattle.xc_forms.specs.declared.domain.Domain.{Domain}
 use Rattle.xc_merge.specs.Merges.{Merge, viewpoint_at, parts_of}
 use Rattle.xc_report.specs.Reports.{line, places_text, element_text}
 

@@ -5,7 +5,7 @@ use Rattle.std.specs.Fmt.{decimal}
 use Rattle.xc_theory.specs.Codes.{digits}
 use Rattle.xc_alg.specs.Products.{product, sizes}
 use Rattle.xc_base.specs.Names.{name_at}
-use Rattle.xc_expr.specs.declared.domain.Domain.{Domain}
+use Rattle.xc_forms.specs.declared.domain.Domain.{Domain}
 use Rattle.xc_merge.specs.Merges.{Merge, name_of, viewpoint_at, parts_of, names_of_parts}
 use Rattle.xc_merge.specs.Projections.{states_of, row_of}
 use Rattle.xc_merge.specs.MergedFrames.{initials_of}

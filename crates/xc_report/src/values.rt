@@ -4,7 +4,7 @@ ghost use Rattle.std.specs.Prelude.{◌≡◌, ◌<◌, ◌∷◌, [], ◌++◌,
 ghost use Rattle.std.specs.List.{flat_map};
 ghost use Rattle.xc_theory.specs.Codes.{AreDigits};
 ghost use Rattle.xc_alg.specs.Products.{product};
-ghost use Rattle.xc_expr.specs.Variables.{sizes_of};
+ghost use Rattle.xc_forms.specs.Variables.{sizes_of};
 ghost use Rattle.xc_merge.specs.Merges.{parts_of};
 ghost use Rattle.xc_merge.specs.Projections.{states_of, row_of};
 ghost use Rattle.xc_merge.specs.MergedFrames.{merged_frame, initials_of};
@@ -18,7 +18,8 @@ use crate::told::Told;
 use std::alloc::Global;
 use xc_base::{Bytes, Memory};
 use xc_ctl::Rounds;
-use xc_expr::{Domain, Vars, places_of};
+use xc_expr::places_of;
+use xc_forms::{Domain, Vars};
 use xc_machine::Machine;
 
 // Appends a variable with the name of its value.

@@ -9,8 +9,8 @@ use Rattle.xc_base.specs.Canonical.{numbered}
 use Rattle.xc_base.specs.Formats.{IsAccepted, IsFaultless}
 use Rattle.xc_base.specs.Names.{has_twice}
 use Rattle.xc_base.specs.Words.{is_name}
-use Rattle.xc_expr.specs.Variables.{names_of, sizes_of, is_domain, state_limit}
-use Rattle.xc_expr.specs.declared.domain.Domain.{Domain}
+use Rattle.xc_forms.specs.Variables.{names_of, sizes_of, is_domain, state_limit}
+use Rattle.xc_forms.specs.declared.domain.Domain.{Domain}
 use Rattle.xc_sigmap.specs.declared.parts.Use as viewpoints
 use Rattle.xc_sigmap.specs.declared.parts.Tell as tellings
 use Rattle.xc_sigmap.specs.declared.parts.Stutter as gaps

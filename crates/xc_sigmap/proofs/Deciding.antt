@@ -7,7 +7,7 @@ use Rattle.std.proofs.lemmas.Bool.{and_parts, and_from}
 use Rattle.xc_base.proofs.Naming.{same_bytes}
 use Rattle.xc_base.specs.Words.{is_name, is_file_word}
 use Rattle.xc_base.specs.Deciding.{Decides}
-use Rattle.xc_expr.specs.Written.{is_variable_name, is_value_name}
+use Rattle.xc_forms.specs.VariableNames.{is_variable_name, is_value_name}
 use Rattle.xc_sigmap.specs.declared.parts.Told.{Told}
 use Rattle.xc_sigmap.specs.declared.parts.Told.TheVariants.{Named, Constant}
 use Rattle.xc_sigmap.specs.declared.statement.Pair.{Pair}

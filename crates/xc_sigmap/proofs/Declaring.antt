@@ -9,9 +9,9 @@ use Rattle.std.proofs.Math.Nat.{mul-le-mul_left, mul_assoc}
 use Rattle.xc_theory.specs.Codes.{total}
 use Rattle.xc_base.specs.Names.{is_among, has_twice}
 use Rattle.xc_base.specs.Formats.{Excess}
-use Rattle.xc_expr.specs.Variables.{names_of, sizes_of, is_domain, state_limit}
-use Rattle.xc_expr.specs.Written.{is_variable_name, is_value_name}
-use Rattle.xc_expr.specs.declared.domain.Domain.{Domain}
+use Rattle.xc_forms.specs.Variables.{names_of, sizes_of, is_domain, state_limit}
+use Rattle.xc_forms.specs.VariableNames.{is_variable_name, is_value_name}
+use Rattle.xc_forms.specs.declared.domain.Domain.{Domain}
 use Rattle.xc_sigmap.specs.declared.parts.Use as viewpoints
 use Rattle.xc_sigmap.specs.declared.statement.Statement.{Statement}
 use Rattle.xc_sigmap.specs.declared.statement.Statement.TheVariants.{Use, Var, Prop}

@@ -10,8 +10,8 @@ use Rattle.xc_base.specs.Names.{is_among, has_twice}
 use Rattle.xc_base.specs.Formats.{Excess, IsFaultless}
 use Rattle.xc_base.proofs.Naming.{same_bytes, bytes_refl}
 use Rattle.xc_base.specs.declared.fault.Counted.TheVariants as counted
-use Rattle.xc_expr.specs.Variables.{names_of, sizes_of, is_domain, state_limit}
-use Rattle.xc_expr.specs.declared.domain.Domain.{Domain}
+use Rattle.xc_forms.specs.Variables.{names_of, sizes_of, is_domain, state_limit}
+use Rattle.xc_forms.specs.declared.domain.Domain.{Domain}
 use Rattle.xc_sigmap.specs.declared.parts.Use as viewpoints
 use Rattle.xc_sigmap.specs.declared.statement.Statement.{Statement}
 use Rattle.xc_sigmap.specs.declared.statement.Statement.TheVariants.{Map, Use, Var, Prop, Send, Tell, Stutter}

@@ -8,7 +8,7 @@ use Rattle.xc_base.specs.Formats.{Row, IsAccepted}
 use Rattle.xc_base.specs.Lines.{text_rows}
 use Rattle.xc_base.specs.Text.{joins}
 use Rattle.xc_base.proofs.CanonicalTexts.{canonical_is_cut}
-use Rattle.xc_expr.specs.Written.{is_variable_name, is_value_name}
+use Rattle.xc_forms.specs.VariableNames.{is_variable_name, is_value_name}
 use Rattle.xc_sigmap.specs.declared.parts.Told.TheVariants.{Named, Constant}
 use Rattle.xc_sigmap.specs.declared.statement.Pair.{Pair}
 use Rattle.xc_sigmap.specs.declared.statement.Statement.{Statement}

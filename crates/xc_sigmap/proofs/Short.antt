@@ -10,9 +10,9 @@ use Rattle.xc_base.specs.Words.{is_word, is_name, is_file_word}
 use Rattle.xc_base.specs.Canonical.{spaced, canonical, is_short}
 use Rattle.xc_base.specs.Text.{text_fault}
 use Rattle.xc_base.proofs.CanonicalTexts.{canonical_is_sound}
-use Rattle.xc_expr.specs.Variables.{values_at, is_domain}
-use Rattle.xc_expr.specs.Written.{is_variable_name, is_value_name}
-use Rattle.xc_expr.specs.declared.domain.Domain.{Domain}
+use Rattle.xc_forms.specs.Variables.{values_at, is_domain}
+use Rattle.xc_forms.specs.VariableNames.{is_variable_name, is_value_name}
+use Rattle.xc_forms.specs.declared.domain.Domain.{Domain}
 use Rattle.xc_sigmap.specs.declared.parts.Carry.{Carry}
 use Rattle.xc_sigmap.specs.declared.parts.SendLine.{SendLine}
 use Rattle.xc_sigmap.specs.declared.parts.Told.TheVariants.{Named, Constant}

@@ -5,8 +5,8 @@ use Rattle.std.proofs.lemmas.Bool.{and_parts, and_from, leb-true, le-leb, not_fr
 use Rattle.std.proofs.Math.Nat.{mul_assoc, mul-le-mul_left, pow-succ'}
 use Rattle.xc_theory.specs.Codes.{total}
 use Rattle.xc_base.specs.Names.{has_twice}
-use Rattle.xc_expr.specs.Variables.{sizes_of, names_of, is_domain, are_fit, state_limit}
-use Rattle.xc_expr.specs.declared.domain.Domain.{Domain}
+use Rattle.xc_forms.specs.Variables.{sizes_of, names_of, is_domain, are_fit, state_limit}
+use Rattle.xc_forms.specs.declared.domain.Domain.{Domain}
 use Rattle.xc_sigmap.specs.Drafts.{AreSized}
 
 -- one size more

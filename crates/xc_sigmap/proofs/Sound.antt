@@ -10,9 +10,9 @@ use Rattle.xc_base.specs.declared.fault.Part.{Part}
 use Rattle.xc_base.specs.declared.fault.Part.TheVariants as parts
 use Rattle.xc_base.proofs.Naming.{same_bytes, bytes_refl, among_in_range, name_at-place_of}
 use Rattle.xc_base.specs.Names.{name_at}
-use Rattle.xc_expr.specs.Variables.{names_of, values_at}
-use Rattle.xc_expr.specs.Written.{is_variable_name, is_value_name}
-use Rattle.xc_expr.specs.declared.domain.Domain.{Domain}
+use Rattle.xc_forms.specs.Variables.{names_of, values_at}
+use Rattle.xc_forms.specs.VariableNames.{is_variable_name, is_value_name}
+use Rattle.xc_forms.specs.declared.domain.Domain.{Domain}
 use Rattle.xc_sigmap.specs.declared.parts.Use as viewpoints
 use Rattle.xc_sigmap.specs.declared.parts.Carry.{Carry}
 use Rattle.xc_sigmap.specs.declared.parts.SendLine.{SendLine}

@@ -9,9 +9,9 @@ use Rattle.xc_base.specs.Formats.{IsFaultless}
 use Rattle.xc_base.specs.Names.{is_among, has_twice, name_at, place_of}
 use Rattle.xc_base.specs.Words.{is_name}
 use Rattle.xc_base.proofs.Naming.{same_bytes, bytes_refl, among_at, place_of-name_at, same_place}
-use Rattle.xc_expr.specs.Variables.{names_of, values_at, is_domain}
-use Rattle.xc_expr.specs.Written.{is_value_name}
-use Rattle.xc_expr.specs.declared.domain.Domain.{Domain}
+use Rattle.xc_forms.specs.Variables.{names_of, values_at, is_domain}
+use Rattle.xc_forms.specs.VariableNames.{is_value_name}
+use Rattle.xc_forms.specs.declared.domain.Domain.{Domain}
 use Rattle.xc_sigmap.specs.declared.parts.Use as viewpoints
 use Rattle.xc_sigmap.specs.declared.parts.Carry.{Carry}
 use Rattle.xc_sigmap.specs.declared.parts.SendLine.{SendLine}

@@ -5,7 +5,7 @@ use Rattle.std.specs.List.{list_all}
 use Rattle.std.specs.Option.{option_map}
 use Rattle.std.specs.Str.{bytes_eq}
 use Rattle.xc_base.specs.Words.{is_name, is_file_word}
-use Rattle.xc_expr.specs.Written.{is_variable_name, is_value_name}
+use Rattle.xc_forms.specs.VariableNames.{is_variable_name, is_value_name}
 use Rattle.xc_sigmap.specs.declared.parts.Told.{Told}
 use Rattle.xc_sigmap.specs.declared.parts.Told.TheVariants.{Named, Constant}
 use Rattle.xc_sigmap.specs.declared.statement.Pair.{Pair}

@@ -1,7 +1,7 @@
 -- What the names of drafts are.
 -- Words for the steps of the code: public clauses do not rest on them.
 use Rattle.std.specs.Prelude.{◌≡◌, ◌≤◌, Bool, true, List, length}
-use Rattle.xc_expr.specs.Variables.{are_fit}
+use Rattle.xc_forms.specs.Variables.{are_fit}
 use Rattle.xc_sigmap.specs.declared.names.Names.{Names}
 use Rattle.xc_sigmap.specs.declared.statement.Statement.{Statement}
 use Rattle.xc_sigmap.specs.MapFiles.{uses_of, vars_of, props_of, use_limit, prop_limit}

@@ -9,9 +9,9 @@ use Rattle.xc_base.specs.Formats.{Format, Excess}
 use Rattle.xc_base.specs.declared.fault.Part.{Part}
 use Rattle.xc_base.specs.declared.fault.Part.TheVariants as parts
 use Rattle.xc_base.specs.declared.fault.Counted.TheVariants as counted
-use Rattle.xc_expr.specs.Variables.{names_of, sizes_of, values_at, state_limit}
-use Rattle.xc_expr.specs.Written.{is_variable_name, is_value_name}
-use Rattle.xc_expr.specs.declared.domain.Domain.{Domain}
+use Rattle.xc_forms.specs.Variables.{names_of, sizes_of, values_at, state_limit}
+use Rattle.xc_forms.specs.VariableNames.{is_variable_name, is_value_name}
+use Rattle.xc_forms.specs.declared.domain.Domain.{Domain}
 use Rattle.xc_sigmap.specs.declared.parts.Use as viewpoints
 use Rattle.xc_sigmap.specs.declared.parts.Carry.{Carry}
 use Rattle.xc_sigmap.specs.declared.parts.SendLine.{SendLine}

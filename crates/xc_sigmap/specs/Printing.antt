@@ -1,7 +1,7 @@
 -- The canonical text of a map.
 use Rattle.std.specs.Prelude.{ℕ, List, ◌∷◌, ◌++◌, map}
 use Rattle.xc_base.specs.Names.{name_at}
-use Rattle.xc_expr.specs.Variables.{names_of, values_at}
+use Rattle.xc_forms.specs.Variables.{names_of, values_at}
 use Rattle.xc_sigmap.specs.declared.parts.Carry.{Carry}
 use Rattle.xc_sigmap.specs.declared.parts.SendLine.{SendLine}
 use Rattle.xc_sigmap.specs.declared.parts.Tell as tellings

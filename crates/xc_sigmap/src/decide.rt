@@ -1,7 +1,7 @@
 ghost use Rattle.std.specs.Prelude.{◌≡◌, ◌&&◌, true, length, nat_lt, IfOk};
 ghost use Rattle.std.specs.List.{list_all};
 ghost use Rattle.xc_base.specs.Lines.{texts};
-ghost use Rattle.xc_expr.specs.Written.{is_value_name as is_value_text};
+ghost use Rattle.xc_forms.specs.VariableNames.{is_value_name as is_value_text};
 ghost use Rattle.xc_sigmap.specs.Deciding.{map_line, use_line, var_line, prop_line};
 ghost use Rattle.xc_sigmap.specs.Deciding.{first_pair, pairs_in, send_parts, send_line, named_told, constant_told, told_in, tell_line, stutter_line, word_line, line};
 
@@ -10,7 +10,7 @@ use crate::statement::{Pair, Statement};
 use crate::words::is_prop_name;
 use std::alloc::Global;
 use xc_base::{Lexeme, List, Memory, Word, is_name_text, is_word_text};
-use xc_expr::{Domain, is_value_name, is_variable_name};
+use xc_forms::{Domain, is_value_name, is_variable_name};
 
 fn map_line(alloc: Global, tokens: &[Lexeme]) -> Result<Option<Statement>, Memory>
     ensures { IfOk result (λ s. s ≡ map_line (texts tokens.now)) }

@@ -1,7 +1,7 @@
 ghost use Rattle.std.specs.Prelude.{◌≡◌, ◌<◌, ◌≤◌, ◌++◌, ◌∷◌, [], true, None, map, length, IfOk, OnOk};
 ghost use Rattle.std.specs.List.{list_all};
 ghost use Rattle.xc_base.specs.Names.{is_among, place_of};
-ghost use Rattle.xc_expr.specs.Variables.{names_of};
+ghost use Rattle.xc_forms.specs.Variables.{names_of};
 ghost use Rattle.xc_sigmap.specs.MapFiles.{is_map, use_names, carried_names, carry, first_name, sends_of, tells_of, stutters_of, map_of, missing_part, use_limit, prop_limit};
 ghost use Rattle.xc_sigmap.specs.Maps.{value_of};
 ghost use Rattle.xc_sigmap.specs.Drafted.{is_known, AreFew};
@@ -14,7 +14,7 @@ use crate::sigmap::SigMap;
 use crate::statement::{Pair, Statement};
 use std::alloc::Global;
 use xc_base::{List, Memory, Word, find_name};
-use xc_expr::Domain;
+use xc_forms::Domain;
 
 fn map_name(alloc: Global, s: &Statement) -> Result<Word, Memory>
     requires { is_map s.now ≡ true }

@@ -3,7 +3,7 @@ ghost use Rattle.std.specs.List.{list_any, list_all};
 ghost use Rattle.std.specs.Str.{bytes_eq};
 ghost use Rattle.xc_base.specs.Deciding.{statement_fault};
 ghost use Rattle.xc_base.specs.Names.{is_among, has_twice};
-ghost use Rattle.xc_expr.specs.Variables.{names_of};
+ghost use Rattle.xc_forms.specs.Variables.{names_of};
 ghost use Rattle.xc_sigmap.specs.MapFiles.{use_names, carried_names, values_named, says_again, is_repeated, is_unknown, map_format};
 
 use crate::draft::Draft;
@@ -12,7 +12,7 @@ use crate::lookup::{find_use, find_var};
 use crate::parts::Use;
 use crate::statement::{Pair, Statement};
 use xc_base::{FileFault, Word, has_twice, is_among};
-use xc_expr::Domain;
+use xc_forms::Domain;
 
 /// Whether there is a viewpoint of the name.
 #[tactic(auto, using(crate::proofs::Finding::found_is_among, crate::proofs::Finding::none_is_among))]

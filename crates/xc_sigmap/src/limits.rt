@@ -2,13 +2,13 @@ ghost use Rattle.std.specs.Prelude.{◌≡◌, ◌+◌, ◌≤◌, true};
 ghost use Rattle.std.specs.List.{list_all};
 ghost use Rattle.xc_theory.specs.Codes.{total};
 ghost use Rattle.xc_base.specs.Deciding.{excess_fault};
-ghost use Rattle.xc_expr.specs.Variables.{sizes_of, is_domain, state_limit};
+ghost use Rattle.xc_forms.specs.Variables.{sizes_of, is_domain, state_limit};
 ghost use Rattle.xc_sigmap.specs.MapFiles.{line_excess, var_excess, excess_of};
 
 use crate::draft::Draft;
 use crate::statement::Statement;
 use xc_base::{Counted, FileFault};
-use xc_expr::{Vars, state_count};
+use xc_forms::{Vars, state_count};
 
 #[tactic(auto, using(crate::proofs::Sizes::total_push))]
 fn var_fault(vars: &Vars, size: usize, line: u32) -> Option<FileFault>

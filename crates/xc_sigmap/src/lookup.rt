@@ -3,12 +3,12 @@
 ghost use Rattle.std.specs.Prelude.{◌≡◌, ◌<◌, IfSome, length};
 ghost use Rattle.std.specs.List.{position, list_any};
 ghost use Rattle.std.specs.Str.{bytes_eq};
-ghost use Rattle.xc_expr.specs.Variables.{names_of};
+ghost use Rattle.xc_forms.specs.Variables.{names_of};
 ghost use Rattle.xc_sigmap.specs.MapFiles.{use_names};
 
 use crate::parts::Use;
 use xc_base::Word;
-use xc_expr::Domain;
+use xc_forms::Domain;
 
 fn is_use_of(declared: &Use, name: &Word) -> bool
     ensures { result ≡ bytes_eq name.now declared.now.name }

@@ -5,7 +5,7 @@ use crate::parts::Use;
 use crate::statement::Statement;
 use std::alloc::Global;
 use xc_base::{List, Memory, Word};
-use xc_expr::{Vars, copy_domain};
+use xc_forms::{Vars, copy_domain};
 
 /// What statements declare, and others name.
 #[derive(Debug, Drop)]

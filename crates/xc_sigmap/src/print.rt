@@ -4,7 +4,7 @@ ghost use Rattle.std.specs.Prelude.{◌≡◌, ◌<◌, ◌++◌, ◌∷◌, [],
 ghost use Rattle.std.specs.List.{list_all};
 ghost use Rattle.xc_base.specs.Lines.{texts};
 ghost use Rattle.xc_base.specs.Names.{name_at};
-ghost use Rattle.xc_expr.specs.Variables.{names_of, values_at};
+ghost use Rattle.xc_forms.specs.Variables.{names_of, values_at};
 ghost use Rattle.xc_sigmap.specs.declared.statement.Statement.TheVariants.{Map, Use, Var, Prop};
 ghost use Rattle.xc_sigmap.specs.MapFiles.{use_names, pair_tokens, told_tokens, spelling};
 ghost use Rattle.xc_sigmap.specs.Maps.{value_of};
@@ -16,7 +16,7 @@ use crate::parts::{Carry, SendLine, Stutter, Tell, Told, Use as Declared};
 use crate::sigmap::SigMap;
 use std::alloc::Global;
 use xc_base::{Bytes, Lexeme, List, Memory, Word, push_line};
-use xc_expr::Domain;
+use xc_forms::Domain;
 
 fn word<'a>(text: &'a [u8]) -> Lexeme<'a>
     ensures { result.text.now ≡ text.now }

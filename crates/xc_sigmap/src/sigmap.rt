@@ -3,7 +3,7 @@ ghost use Rattle.xc_sigmap.specs.Sound.{is_sound};
 
 use crate::parts::{SendLine, Stutter, Tell, Use};
 use xc_base::{List, Word};
-use xc_expr::Vars;
+use xc_forms::Vars;
 
 /// Which viewpoints are merged, over which variables and propositions, and what each viewpoint sends and tells.
 ///

@@ -1,6 +1,6 @@
 use crate::parts::{Told, Use};
 use xc_base::{List, Word};
-use xc_expr::Domain;
+use xc_forms::Domain;
 
 /// A value of a map's variable, and the word that it is carried to.
 #[derive(Debug, Drop)]

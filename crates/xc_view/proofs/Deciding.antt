@@ -11,7 +11,8 @@ use Rattle.xc_base.proofs.Naming.{same_bytes}
 use Rattle.xc_base.specs.Names.{is_among}
 use Rattle.xc_base.specs.Words.{is_name, is_file_word}
 use Rattle.xc_base.specs.Deciding.{Decides}
-use Rattle.xc_expr.specs.Written.{Written, Assigned, IsGuard, IsAction, is_variable_name, is_value_name}
+use Rattle.xc_expr.specs.Written.{Written, Assigned, IsGuard, IsAction}
+use Rattle.xc_forms.specs.VariableNames.{is_variable_name, is_value_name}
 use Rattle.xc_expr.specs.Resolving.{both}
 use Rattle.xc_expr.specs.Reading.{guard_in, action_in}
 use Rattle.xc_view.specs.ViewFiles.{Statement, View, Lattice, Var, Init, Prop, Command, IsStated, IsDue, is_due, view_format}

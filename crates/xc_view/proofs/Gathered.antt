@@ -2,9 +2,9 @@
 use Rattle.std.proofs.Common.{◌≡◌, ℕ, ◌≤◌, true, List, [], ◌∷◌, length, get_or, None, sym, ◌∙◌, ap, subst, arith}
 use Rattle.std.specs.List.{list_all}
 use Rattle.std.proofs.lemmas.List.{length-map}
-use Rattle.xc_expr.specs.Variables.{are_fit}
+use Rattle.xc_forms.specs.Variables.{are_fit}
 use Rattle.xc_expr.specs.Tests.{Test}
-use Rattle.xc_expr.specs.declared.domain.Domain.{Domain}
+use Rattle.xc_forms.specs.declared.domain.Domain.{Domain}
 use Rattle.xc_view.specs.ViewFiles.{PropValue, CommandValue, ViewValue, vars_of, is_lattice, first_name, first_lattice, first_init, props_of, commands_of, missing_part}
 use Rattle.xc_view.specs.Parts.{is_sound}
 use Rattle.xc_view.specs.Writable.{is_writable}

@@ -5,7 +5,7 @@ use Rattle.std.proofs.lemmas.List.Sums.{AllPass-from_list_all}
 use Rattle.std.proofs.lemmas.List.Folds.{list_all-map}
 use Rattle.std.proofs.lemmas.Bool.{and_parts}
 use Rattle.xc_expr.specs.Tests.{Test}
-use Rattle.xc_expr.specs.declared.domain.Domain.{Domain}
+use Rattle.xc_forms.specs.declared.domain.Domain.{Domain}
 use Rattle.xc_view.specs.ViewFiles.{Statement, View, Lattice, Var, Init, Prop, Command, PropValue, CommandValue, ViewValue, vars_of, is_view, is_lattice, first_name, first_lattice, first_init, props_of, commands_of, view_of}
 use Rattle.xc_view.specs.Statements.{stated}
 use Rattle.xc_view.specs.Drafts.{all_stated, begins, is_known}

@@ -8,7 +8,7 @@ use Rattle.xc_base.specs.Canonical.{canonical}
 use Rattle.xc_expr.specs.Printing.{named_guard}
 use Rattle.xc_expr.specs.Actions.{is_action_in_range}
 use Rattle.xc_expr.specs.Tests.{Test, test_of, is_in_range}
-use Rattle.xc_expr.specs.declared.domain.Domain.{Domain}
+use Rattle.xc_forms.specs.declared.domain.Domain.{Domain}
 use Rattle.xc_view.specs.ViewFiles.{ViewValue, PropValue, CommandValue, Statement, View, Lattice, Init}
 use Rattle.xc_view.specs.Parts.{prop_value, command_value, is_prop_in, is_command_in, is_sound}
 use Rattle.xc_view.specs.Printing.{spelling, var_statement, prop_statement, command_statement, view_lines}

@@ -22,11 +22,12 @@ use Rattle.xc_expr.specs.Actions.{is_action_in_range}
 use Rattle.xc_expr.specs.Printing.{named_guard, named_action, guard_tokens}
 use Rattle.xc_expr.specs.Resolving.{resolved, resolved_action, sets_twice}
 use Rattle.xc_expr.specs.Tests.{Test, is_in_range}
-use Rattle.xc_expr.specs.Variables.{names_of, sizes_of, is_domain, are_fit, state_limit}
+use Rattle.xc_forms.specs.Variables.{names_of, sizes_of, is_domain, are_fit, state_limit}
 use Rattle.xc_expr.specs.Writable.{has_fit_names, depth_of, is_clear, is_writable_guard, is_writable_action}
-use Rattle.xc_expr.specs.Written.{Written, Assigned, IsGuard, IsAction, is_variable_name, is_value_name, has_names, action_tokens, depth_limit}
+use Rattle.xc_expr.specs.Written.{Written, Assigned, IsGuard, IsAction, has_names, action_tokens, depth_limit}
+use Rattle.xc_forms.specs.VariableNames.{is_variable_name, is_value_name}
 use Rattle.xc_expr.specs.declared.assign.Assign.{Assign}
-use Rattle.xc_expr.specs.declared.domain.Domain.{Domain}
+use Rattle.xc_forms.specs.declared.domain.Domain.{Domain}
 use Rattle.xc_view.specs.Drafts.{command_names}
 use Rattle.xc_view.specs.Parts.{is_prop_in, is_command_in, is_named_var}
 use Rattle.xc_view.specs.Printing.{spelling, var_statement, prop_statement, command_statement}

@@ -14,7 +14,7 @@ use Rattle.xc_expr.specs.Resolving.{resolved, resolved_action, sets_twice}
 use Rattle.xc_expr.specs.Tests as tests
 use Rattle.xc_expr.specs.Written.{Written, Assigned, IsGuard, IsAction, action_tokens}
 use Rattle.xc_expr.specs.declared.assign.Assign.{Assign}
-use Rattle.xc_expr.specs.declared.domain.Domain.{Domain}
+use Rattle.xc_forms.specs.declared.domain.Domain.{Domain}
 use Rattle.xc_expr.proofs.ActionsAgain.{actions_keep_their_tokens}
 use Rattle.xc_expr.proofs.GuardsAgain.{no_print_is_longer}
 use Rattle.xc_view.specs.Cut.{AreCut}

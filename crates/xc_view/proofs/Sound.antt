@@ -6,13 +6,14 @@ use Rattle.xc_base.specs.Names.{has_twice}
 use Rattle.xc_base.specs.Words.{is_name, is_file_word}
 use Rattle.xc_base.specs.declared.fault.Part.{Part}
 use Rattle.xc_base.specs.declared.fault.Part.TheVariants as parts
-use Rattle.xc_expr.specs.Variables.{are_fit}
+use Rattle.xc_forms.specs.Variables.{are_fit}
 use Rattle.xc_expr.specs.Tests as tests
 use Rattle.xc_expr.specs.Tests.{is_in_range}
 use Rattle.xc_expr.specs.Actions.{is_action_in_range}
-use Rattle.xc_expr.specs.Written.{Written, Assigned, is_variable_name, is_value_name}
+use Rattle.xc_expr.specs.Written.{Written, Assigned}
+use Rattle.xc_forms.specs.VariableNames.{is_variable_name, is_value_name}
 use Rattle.xc_expr.specs.Resolving.{resolved, resolved_action, sets_twice}
-use Rattle.xc_expr.specs.declared.domain.Domain.{Domain}
+use Rattle.xc_forms.specs.declared.domain.Domain.{Domain}
 use Rattle.xc_expr.specs.declared.assign.Assign.{Assign}
 use Rattle.xc_view.specs.ViewFiles.{Statement, View, Lattice, Var, Init, Prop, Command, CommandValue, ViewValue, vars_of, is_view, is_lattice, is_init, is_prop, is_command, count_of, line_limit, missing_part, test_in, assigns_in, first_name, first_lattice, first_init, props_of, commands_of, view_of}
 use Rattle.xc_view.specs.Parts.{is_prop_in, is_command_in, is_named_var, is_sound}

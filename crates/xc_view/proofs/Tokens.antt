@@ -9,7 +9,7 @@ use Rattle.std.proofs.lemmas.Bool.{and_parts}
 use Rattle.xc_base.specs.Words.{is_name, is_word}
 use Rattle.xc_base.specs.declared.lines.Lexeme.{Lexeme}
 use Rattle.xc_base.specs.Lines.{texts}
-use Rattle.xc_expr.specs.Written.{is_value_name}
+use Rattle.xc_forms.specs.VariableNames.{is_value_name}
 
 -- names are words
 pub name_is_word : (text : List ℕ) → is_name text ≡ true → is_word text ≡ true

@@ -9,7 +9,7 @@ use Rattle.xc_expr.specs.Tests as tests
 use Rattle.xc_expr.specs.Writable.{has_fit_names, depth_of, is_writable_guard, is_writable_action}
 use Rattle.xc_expr.specs.Written.{Written, Assigned, has_names, action_tokens, depth_limit}
 use Rattle.xc_expr.specs.declared.assign.Assign.{Assign}
-use Rattle.xc_expr.specs.declared.domain.Domain.{Domain}
+use Rattle.xc_forms.specs.declared.domain.Domain.{Domain}
 use Rattle.xc_expr.proofs.ActionsAgain.{read_actions_are_writable}
 use Rattle.xc_expr.proofs.GuardPrints.{printed_sum}
 use Rattle.xc_expr.proofs.GuardsAgain.{read_guards_are_writable}

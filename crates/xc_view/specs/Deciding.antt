@@ -4,7 +4,7 @@ use Rattle.std.specs.List.{list_all, position}
 use Rattle.std.specs.Option.{option_map}
 use Rattle.std.specs.Str.{bytes_eq}
 use Rattle.xc_base.specs.Words.{is_name, is_file_word}
-use Rattle.xc_expr.specs.Written.{is_variable_name, is_value_name}
+use Rattle.xc_forms.specs.VariableNames.{is_variable_name, is_value_name}
 use Rattle.xc_expr.specs.Resolving.{both}
 use Rattle.xc_expr.specs.Reading.{guard_in, action_in}
 use Rattle.xc_view.specs.ViewFiles.{Statement, View, Lattice, Var, Init, Prop, Command, is_due}

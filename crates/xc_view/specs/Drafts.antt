@@ -6,11 +6,12 @@ use Rattle.std.specs.Option.{is_none}
 use Rattle.xc_theory.specs.Codes.{total}
 use Rattle.xc_base.specs.Names.{has_twice}
 use Rattle.xc_base.specs.Words.{is_name, is_file_word}
-use Rattle.xc_expr.specs.Variables.{names_of, sizes_of, is_domain, state_limit}
+use Rattle.xc_forms.specs.Variables.{names_of, sizes_of, is_domain, state_limit}
 use Rattle.xc_expr.specs.Resolving.{resolved, resolved_action, sets_twice}
 use Rattle.xc_expr.specs.Writable.{has_fit_names, depth_of}
-use Rattle.xc_expr.specs.Written.{Written, is_variable_name, is_value_name, has_names, depth_limit}
-use Rattle.xc_expr.specs.declared.domain.Domain.{Domain}
+use Rattle.xc_expr.specs.Written.{Written, has_names, depth_limit}
+use Rattle.xc_forms.specs.VariableNames.{is_variable_name, is_value_name}
+use Rattle.xc_forms.specs.declared.domain.Domain.{Domain}
 use Rattle.xc_view.specs.ViewFiles.{Statement, View, Lattice, Var, Init, Prop, Command, vars_of, is_view, is_lattice, is_prop, is_command, count_of, line_limit}
 use Rattle.xc_view.specs.Statements.{stated}
 use Rattle.xc_view.specs.declared.statement.Statement as code

@@ -4,7 +4,7 @@ use Rattle.std.specs.Str.{bytes_eq}
 use Rattle.xc_theory.specs.Bounds.{join_of}
 use Rattle.xc_theory.specs.Codes.{digits}
 use Rattle.xc_base.specs.Names.{place_of}
-use Rattle.xc_expr.specs.Variables.{sizes_of}
+use Rattle.xc_forms.specs.Variables.{sizes_of}
 use Rattle.xc_expr.specs.Tests.{holds_at}
 use Rattle.xc_expr.specs.Actions.{allows}
 use Rattle.xc_view.specs.ViewFiles.{PropValue, CommandValue, ViewValue}

@@ -3,9 +3,9 @@ use Rattle.std.specs.Prelude.{Bool, ◌&&◌, not, nat_le, length, map}
 use Rattle.std.specs.List.{list_all}
 use Rattle.xc_base.specs.Names.{has_twice}
 use Rattle.xc_base.specs.Words.{is_name, is_file_word}
-use Rattle.xc_expr.specs.Variables.{are_fit}
-use Rattle.xc_expr.specs.Written.{is_variable_name, is_value_name}
-use Rattle.xc_expr.specs.declared.domain.Domain.{Domain}
+use Rattle.xc_forms.specs.Variables.{are_fit}
+use Rattle.xc_forms.specs.VariableNames.{is_variable_name, is_value_name}
+use Rattle.xc_forms.specs.declared.domain.Domain.{Domain}
 use Rattle.xc_expr.specs.Tests.{test_of, is_in_range}
 use Rattle.xc_expr.specs.Actions.{is_action_in_range}
 use Rattle.xc_view.specs.ViewFiles.{PropValue, CommandValue, ViewValue, line_limit}

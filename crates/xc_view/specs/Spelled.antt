@@ -4,7 +4,7 @@ use Rattle.std.specs.Prelude.{ℕ, Bool, ◌&&◌, List, map}
 use Rattle.xc_base.specs.Canonical.{canonical}
 use Rattle.xc_expr.specs.Tests.{test_of, is_in_range}
 use Rattle.xc_expr.specs.Actions.{is_action_in_range}
-use Rattle.xc_expr.specs.declared.domain.Domain.{Domain}
+use Rattle.xc_forms.specs.declared.domain.Domain.{Domain}
 use Rattle.xc_view.specs.ViewFiles.{Statement}
 use Rattle.xc_view.specs.Printing.{spelling}
 use Rattle.xc_view.specs.declared.lines.PropLine.{PropLine}

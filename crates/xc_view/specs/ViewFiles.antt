@@ -9,11 +9,12 @@ use Rattle.xc_base.specs.Formats.{Format, Excess}
 use Rattle.xc_base.specs.declared.fault.Part.{Part}
 use Rattle.xc_base.specs.declared.fault.Part.TheVariants as parts
 use Rattle.xc_base.specs.declared.fault.Counted.TheVariants as counted
-use Rattle.xc_expr.specs.Variables.{names_of, sizes_of, state_limit}
+use Rattle.xc_forms.specs.Variables.{names_of, sizes_of, state_limit}
 use Rattle.xc_expr.specs.Tests as tests
-use Rattle.xc_expr.specs.Written.{Written, Assigned, IsGuard, IsAction, is_variable_name, is_value_name}
+use Rattle.xc_expr.specs.Written.{Written, Assigned, IsGuard, IsAction}
+use Rattle.xc_forms.specs.VariableNames.{is_variable_name, is_value_name}
 use Rattle.xc_expr.specs.Resolving.{resolved, resolved_action, sets_twice}
-use Rattle.xc_expr.specs.declared.domain.Domain.{Domain}
+use Rattle.xc_forms.specs.declared.domain.Domain.{Domain}
 use Rattle.xc_expr.specs.declared.assign.Assign.{Assign}
 
 -- a statement of a viewpoint file; guards and actions have names in place of variables and values

@@ -2,7 +2,7 @@
 use Rattle.std.specs.Prelude.{Bool, ◌&&◌, List}
 use Rattle.std.specs.List.{list_all}
 use Rattle.xc_expr.specs.Writable.{is_writable_guard, is_writable_action}
-use Rattle.xc_expr.specs.declared.domain.Domain.{Domain}
+use Rattle.xc_forms.specs.declared.domain.Domain.{Domain}
 use Rattle.xc_view.specs.ViewFiles.{PropValue, CommandValue, ViewValue}
 
 -- whether the guard of a line can be written, and the guard and the action of a command

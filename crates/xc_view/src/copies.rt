@@ -7,7 +7,8 @@ use crate::lines::{Command, PropLine};
 use crate::view::View;
 use std::alloc::Global;
 use xc_base::{List, Memory};
-use xc_expr::{copy_action, copy_guard, copy_vars};
+use xc_expr::{copy_action, copy_guard};
+use xc_forms::copy_vars;
 
 fn copy_prop(alloc: Global, line: &PropLine) -> Result<PropLine, Memory>
     ensures { IfOk result (λ copy. prop_value copy ≡ prop_value line.now) }

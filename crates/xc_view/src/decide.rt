@@ -4,7 +4,7 @@ ghost use Rattle.std.specs.Option.{option_map};
 ghost use Rattle.std.specs.Str.{bytes_eq};
 ghost use Rattle.xc_base.specs.Words.{is_name, is_word};
 ghost use Rattle.xc_base.specs.Lines.{texts};
-ghost use Rattle.xc_expr.specs.Written.{is_value_name as is_value_text};
+ghost use Rattle.xc_forms.specs.VariableNames.{is_value_name as is_value_text};
 ghost use Rattle.xc_view.specs.Deciding.{view_line, lattice_line, var_line, init_line, prop_line};
 ghost use Rattle.xc_view.specs.Deciding.{command_parts, command_line, word_line, line};
 ghost use Rattle.xc_view.specs.Statements.{stated};
@@ -12,7 +12,8 @@ ghost use Rattle.xc_view.specs.Statements.{stated};
 use crate::statement::Statement;
 use std::alloc::Global;
 use xc_base::{Lexeme, List, Memory, Word, is_name_text, is_word_text};
-use xc_expr::{Domain, is_value_name, is_variable_name, parse_action, parse_guard};
+use xc_expr::{parse_action, parse_guard};
+use xc_forms::{Domain, is_value_name, is_variable_name};
 
 fn view_line<'a>(alloc: Global, tokens: &[Lexeme<'a>]) -> Result<Option<Statement<'a>>, Memory>
     ensures { IfOk result (λ s. option_map stated s ≡ view_line (texts tokens.now)) }

@@ -6,7 +6,7 @@ ghost use Rattle.xc_view.specs.Drafts.{all_stated, IsFair};
 use crate::statement::Statement;
 use std::alloc::Global;
 use xc_base::{List, Memory};
-use xc_expr::{Vars, copy_domain};
+use xc_forms::{Vars, copy_domain};
 
 /// Faultless statements of a file, with their variables.
 #[derive(Debug, Drop)]

@@ -1,7 +1,7 @@
 ghost use Rattle.std.specs.Prelude.{◌≡◌, ◌++◌, ◌∷◌, [], true, false, None, map, IfOk, OnOk};
 ghost use Rattle.std.specs.List.{list_all};
 ghost use Rattle.std.specs.Option.{is_none};
-ghost use Rattle.xc_expr.specs.Variables.{are_fit};
+ghost use Rattle.xc_forms.specs.Variables.{are_fit};
 ghost use Rattle.xc_expr.specs.Resolving.{resolved, resolved_action};
 ghost use Rattle.xc_expr.specs.Tests.{test_of};
 ghost use Rattle.xc_expr.specs.Written.{written, set};
@@ -18,7 +18,8 @@ use crate::statement::Statement;
 use crate::view::View;
 use std::alloc::Global;
 use xc_base::{List, Memory, Word};
-use xc_expr::{Action, Guard, Phrase, Setting, Vars, resolve_action, resolve_guard};
+use xc_expr::{Action, Guard, Phrase, Setting, resolve_action, resolve_guard};
+use xc_forms::Vars;
 
 fn view_name(alloc: Global, s: &Statement) -> Result<Word, Memory>
     requires { is_view (stated s.now) ≡ true }

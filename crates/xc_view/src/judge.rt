@@ -3,7 +3,7 @@ ghost use Rattle.std.specs.List.{list_any};
 ghost use Rattle.std.specs.Str.{bytes_eq};
 ghost use Rattle.std.specs.Option.{is_none};
 ghost use Rattle.xc_base.specs.Deciding.{statement_fault};
-ghost use Rattle.xc_expr.specs.Variables.{are_fit};
+ghost use Rattle.xc_forms.specs.Variables.{are_fit};
 ghost use Rattle.xc_expr.specs.Written.{written, set};
 ghost use Rattle.xc_expr.specs.Resolving.{resolved, resolved_action};
 ghost use Rattle.xc_view.specs.ViewFiles.{is_due, is_init, is_command_of, is_repeated, is_unknown, view_format};
@@ -15,7 +15,8 @@ use crate::limits::limit_fault;
 use crate::statement::Statement;
 use std::alloc::Global;
 use xc_base::{FileFault, Memory, Word, has_twice};
-use xc_expr::{Domain, Phrase, Setting, Vars, resolve_action, resolve_guard, sets_twice};
+use xc_expr::{Phrase, Setting, resolve_action, resolve_guard, sets_twice};
+use xc_forms::{Domain, Vars};
 
 fn is_var_of(domain: &Domain, name: &Word) -> bool
     ensures { result ≡ bytes_eq name.now domain.now.name }

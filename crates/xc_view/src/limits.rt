@@ -2,7 +2,7 @@ ghost use Rattle.std.specs.Prelude.{◌≡◌, ◌+◌, ◌≤◌, true, Some, l
 ghost use Rattle.std.specs.List.{list_all};
 ghost use Rattle.xc_theory.specs.Codes.{total};
 ghost use Rattle.xc_base.specs.Deciding.{excess_fault};
-ghost use Rattle.xc_expr.specs.Variables.{sizes_of, is_domain, state_limit};
+ghost use Rattle.xc_forms.specs.Variables.{sizes_of, is_domain, state_limit};
 ghost use Rattle.xc_view.specs.ViewFiles.{is_prop, is_command, count_of, line_limit, line_excess, var_excess, excess_of};
 ghost use Rattle.xc_view.specs.Statements.{stated};
 ghost use Rattle.xc_view.specs.Drafts.{all_stated};
@@ -10,7 +10,7 @@ ghost use Rattle.xc_view.specs.Drafts.{all_stated};
 use crate::draft::Draft;
 use crate::statement::Statement;
 use xc_base::{Counted, FileFault};
-use xc_expr::{Vars, state_count};
+use xc_forms::{Vars, state_count};
 
 #[tactic(auto, using(crate::proofs::Sizes::total_push))]
 fn var_fault(vars: &Vars, size: usize, line: u32) -> Option<FileFault>

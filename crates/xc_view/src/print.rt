@@ -15,7 +15,8 @@ use crate::lines::{Command, PropLine};
 use crate::view::View;
 use std::alloc::Global;
 use xc_base::{Bytes, Lexeme, List, Memory, Word, push_line};
-use xc_expr::{Domain, Guard, Vars, push_action, push_guard};
+use xc_expr::{Guard, push_action, push_guard};
+use xc_forms::{Domain, Vars};
 
 fn word<'a>(text: &'a [u8]) -> Lexeme<'a>
     ensures { result.text.now ≡ text.now }

@@ -1,5 +1,6 @@
 use xc_base::{List, Word};
-use xc_expr::{Domain, Phrase, Setting};
+use xc_expr::{Phrase, Setting};
+use xc_forms::Domain;
 
 /// A statement of a viewpoint file. Guards and actions have the names that the file's text has.
 #[derive(Debug, Drop)]

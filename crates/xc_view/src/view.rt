@@ -5,7 +5,8 @@ ghost use Rattle.xc_view.specs.Writable.{is_writable};
 
 use crate::lines::{Command, PropLine};
 use xc_base::{List, Word};
-use xc_expr::{Guard, Vars};
+use xc_expr::Guard;
+use xc_forms::Vars;
 
 /// What a stakeholder says of a system: its variables, where it begins, its propositions and its steps.
 ///

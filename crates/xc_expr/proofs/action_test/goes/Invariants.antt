@@ -1,6 +1,6 @@
 -- Whether the rest of the variables go is whether all do.
 use Rattle.std.proofs.Common.{◌≡◌}
-use Rattle.xc_expr.specs.Variables.{sizes_of}
+use Rattle.xc_forms.specs.Variables.{sizes_of}
 use Rattle.xc_expr.specs.Moving.{goes_from}
 use Rattle.xc_expr.proofs.action_test.goes.Given as goal
 

@@ -1,5 +1,5 @@
 -- The places of a state are digits.
-use Rattle.xc_expr.specs.Variables.{sizes_of}
+use Rattle.xc_forms.specs.Variables.{sizes_of}
 use Rattle.xc_expr.proofs.Placing.{are_digits}
 use Rattle.xc_expr.proofs.action_test.moves.Goals as goal
 

@@ -1,7 +1,7 @@
 -- The rest and the places that are written come to the digits of the state.
 use Rattle.std.proofs.Common.{◌≡◌, ◌<◌, length, take}
 use Rattle.xc_theory.specs.Codes.{total, digits}
-use Rattle.xc_expr.specs.Variables.{sizes_of}
+use Rattle.xc_forms.specs.Variables.{sizes_of}
 use Rattle.xc_expr.proofs.Placing.{comes_to}
 use Rattle.xc_expr.proofs.places.places_of.Given as goal
 

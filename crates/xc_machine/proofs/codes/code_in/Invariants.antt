@@ -1,6 +1,6 @@
 use Rattle.std.proofs.Common.{◌≡◌, ◌+◌, ◌*◌, drop}
 use Rattle.xc_theory.specs.Codes.{total, code_of}
-use Rattle.xc_expr.specs.Variables.{sizes_of}
+use Rattle.xc_forms.specs.Variables.{sizes_of}
 use Rattle.xc_machine.proofs.codes.code_in.Given as goal
 
 abbrev pub invariant-loop-x : goal.invariant-loop-x

@@ -1,7 +1,7 @@
 use Rattle.std.proofs.Common.{ℕ, ◌<◌, List, length, get_or, ap, ◌∙◌, arith}
 use Rattle.std.proofs.lemmas.List.{length-set}
 use Rattle.xc_base.specs.Names.{place_of}
-use Rattle.xc_expr.specs.declared.domain.Domain.{Domain}
+use Rattle.xc_forms.specs.declared.domain.Domain.{Domain}
 use Rattle.xc_sigmap.specs.Maps.{value_of as map_of}
 use Rattle.xc_merge.specs.Projections.{carried_place}
 use Rattle.xc_machine.proofs.Sound.{size_few}

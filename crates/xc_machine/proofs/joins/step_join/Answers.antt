@@ -1,6 +1,6 @@
 use Rattle.std.proofs.Common.{arith, refl}
 use Rattle.xc_alg.specs.Products.{product}
-use Rattle.xc_expr.specs.Variables.{sizes_of}
+use Rattle.xc_forms.specs.Variables.{sizes_of}
 use Rattle.xc_machine.specs.Joins.{leads_to}
 use Rattle.xc_machine.proofs.Joining.{item_more}
 use Rattle.xc_machine.proofs.joins.step_join.Goals as goal

@@ -1,6 +1,6 @@
 use Rattle.std.proofs.Common.{◌≡◌, ◌<◌, map}
 use Rattle.xc_alg.specs.Products.{product}
-use Rattle.xc_expr.specs.Variables.{sizes_of}
+use Rattle.xc_forms.specs.Variables.{sizes_of}
 use Rattle.xc_machine.specs.Joins.{leads_to, joined_from}
 use Rattle.xc_machine.proofs.joins.step_join.Given as goal
 

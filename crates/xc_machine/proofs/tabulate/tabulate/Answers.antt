@@ -6,8 +6,8 @@ use Rattle.xc_alg.specs.Bounds.{joined}
 use Rattle.xc_alg.specs.Products.{product}
 use Rattle.xc_alg.proofs.Tables.{product_size, product_bottom}
 use Rattle.xc_base.specs.Names.{is_among, place_of}
-use Rattle.xc_expr.specs.Variables.{values_at}
-use Rattle.xc_expr.specs.declared.domain.Domain.{Domain}
+use Rattle.xc_forms.specs.Variables.{values_at}
+use Rattle.xc_forms.specs.declared.domain.Domain.{Domain}
 use Rattle.xc_lattice.specs.Values.{value_of as lattice_of}
 use Rattle.xc_sigmap.specs.Maps.{value_of as map_of}
 use Rattle.xc_view.specs.Parts.{prop_value, command_value}

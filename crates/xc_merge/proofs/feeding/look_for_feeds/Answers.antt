@@ -1,5 +1,5 @@
 use Rattle.std.proofs.Common.{◌≡◌, [], ◌∙◌, subst}
-use Rattle.xc_expr.specs.declared.domain.Domain.{Domain}
+use Rattle.xc_forms.specs.declared.domain.Domain.{Domain}
 use Rattle.xc_sigmap.specs.Maps.{value_of as map_of}
 use Rattle.xc_merge.specs.Faults.{IsFirstOf}
 use Rattle.xc_merge.specs.Finding.{unfed_by, unfed}

@@ -1,6 +1,6 @@
 use Rattle.std.proofs.Common.{◌≡◌, drop}
 use Rattle.xc_theory.specs.Codes.{total}
-use Rattle.xc_expr.specs.Variables.{sizes_of}
+use Rattle.xc_forms.specs.Variables.{sizes_of}
 use Rattle.xc_sigmap.specs.Maps.{value_of as map_of}
 use Rattle.xc_machine.proofs.merged.Merged.block_at.Given as goal
 

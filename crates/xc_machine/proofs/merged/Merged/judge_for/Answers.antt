@@ -7,7 +7,7 @@ use Rattle.xc_machine.proofs.Sound.{sound_parts}
 use Rattle.xc_machine.proofs.Seeing.{vars_few, seen_digits}
 use Rattle.xc_machine.proofs.Descending.{judged_is, known-length}
 use Rattle.xc_theory.proofs.Codes.{digits_are_in_range}
-use Rattle.xc_expr.specs.Variables.{sizes_of}
+use Rattle.xc_forms.specs.Variables.{sizes_of}
 use Rattle.xc_machine.proofs.merged.Merged.judge_for.Goals as goal
 
 pub known-read-requires : goal.known-read-requires

@@ -1,7 +1,7 @@
 use Rattle.std.proofs.Common.{List, take, ap, sym, ◌∙◌}
 use Rattle.xc_theory.specs.Codes.{code_of}
-use Rattle.xc_expr.specs.Variables.{sizes_of}
-use Rattle.xc_expr.specs.declared.domain.Domain.{Domain}
+use Rattle.xc_forms.specs.Variables.{sizes_of}
+use Rattle.xc_forms.specs.declared.domain.Domain.{Domain}
 use Rattle.xc_sigmap.specs.Maps.{value_of as map_of}
 use Rattle.xc_view.specs.Views.{value_of as view_of}
 use Rattle.xc_merge.specs.Merges.{Viewpoint}

@@ -11,7 +11,7 @@ use Rattle.std.proofs.Common.{Bool}
 use Rattle.xc_theory.proofs.Codes.{digits_are_in_range}
 use Rattle.xc_alg.specs.AnyTables.{lattice_in_any}
 use Rattle.xc_alg.specs.Products.{product}
-use Rattle.xc_expr.specs.Variables.{sizes_of}
+use Rattle.xc_forms.specs.Variables.{sizes_of}
 use Rattle.xc_view.specs.ViewFiles.{PropValue}
 use Rattle.xc_merge.specs.Projections.{row_seen}
 use Rattle.xc_merge.specs.Pieces.{mark, counts}

@@ -1,6 +1,6 @@
 use Rattle.std.proofs.Common.{◌≡◌, ℕ, length, take, ap, sym, subst, ◌∙◌, arith}
 use Rattle.xc_theory.specs.Codes.{AreDigits}
-use Rattle.xc_expr.specs.Variables.{sizes_of}
+use Rattle.xc_forms.specs.Variables.{sizes_of}
 use Rattle.xc_sigmap.specs.Maps.{value_of as map_of}
 use Rattle.xc_view.specs.Views.{value_of as view_of}
 use Rattle.xc_merge.specs.Merges.{Viewpoint}

@@ -1,6 +1,6 @@
 use Rattle.std.proofs.Common.{ℕ, List, [], ◌∷◌, length, map, take, ap, sym, refl, ◌∙◌, arith}
 use Rattle.std.proofs.lemmas.List.{length-map}
-use Rattle.xc_expr.specs.declared.domain.Domain.{Domain}
+use Rattle.xc_forms.specs.declared.domain.Domain.{Domain}
 use Rattle.xc_sigmap.specs.Maps.{value_of as map_of}
 use Rattle.xc_view.specs.Parts.{command_value}
 use Rattle.xc_view.specs.Views.{value_of as view_of}
@@ -11,7 +11,7 @@ use Rattle.xc_machine.proofs.Sound.{sound_parts, guards_in, actions_in}
 use Rattle.xc_theory.proofs.Codes.{digits_are_in_range}
 use Rattle.xc_alg.specs.AnyTables.{lattice_in_any}
 use Rattle.xc_alg.specs.Products.{product}
-use Rattle.xc_expr.specs.Variables.{sizes_of}
+use Rattle.xc_forms.specs.Variables.{sizes_of}
 use Rattle.xc_merge.specs.Projections.{row_seen}
 use Rattle.xc_merge.specs.Pieces.{weight}
 use Rattle.xc_machine.specs.Joins.{leads_to, joined_from}

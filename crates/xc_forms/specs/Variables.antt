@@ -3,7 +3,7 @@ use Rattle.std.specs.Prelude.{ℕ, Bool, ◌&&◌, not, nat_le, List, [], length
 use Rattle.std.specs.List.{list_all, slice_index_or}
 use Rattle.xc_theory.specs.Codes.{total}
 use Rattle.xc_base.specs.Names.{has_twice}
-use Rattle.xc_expr.specs.declared.domain.Domain.{Domain}
+use Rattle.xc_forms.specs.declared.domain.Domain.{Domain}
 
 abbrev pub names_of : List Domain → List (List ℕ)
 names_of vars = map (λ (d : Domain). d.name) vars

@@ -1,7 +1,7 @@
 ghost use Rattle.std.specs.Prelude.{◌≡◌, ◌≤◌, true};
 ghost use Rattle.std.specs.List.{list_all};
 ghost use Rattle.xc_theory.specs.Codes.{total};
-ghost use Rattle.xc_expr.specs.Variables.{is_domain, sizes_of, state_limit};
+ghost use Rattle.xc_forms.specs.Variables.{is_domain, sizes_of, state_limit};
 
 use crate::domain::Vars;
 

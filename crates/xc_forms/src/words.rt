@@ -2,7 +2,7 @@
 
 ghost use Rattle.std.specs.Prelude.{◌≡◌};
 ghost use Rattle.xc_base.specs.Names.{is_among};
-ghost use Rattle.xc_expr.specs.Written.{value_words, is_value_name, is_variable_name};
+ghost use Rattle.xc_forms.specs.VariableNames.{value_words, is_value_name, is_variable_name};
 
 use xc_base::is_name_text;
 

@@ -6,8 +6,8 @@ use Rattle.std.proofs.lemmas.Bool.{and_parts, leb-true}
 use Rattle.std.proofs.lemmas.List.{drop_all}
 use Rattle.std.proofs.lemmas.List.Sums.{AllPass-from_list_all}
 use Rattle.xc_theory.specs.Codes.{total}
-use Rattle.xc_expr.specs.Variables.{are_fit, is_domain, sizes_of, state_limit}
-use Rattle.xc_expr.specs.declared.domain.Domain.{Domain}
+use Rattle.xc_forms.specs.Variables.{are_fit, is_domain, sizes_of, state_limit}
+use Rattle.xc_forms.specs.declared.domain.Domain.{Domain}
 
 -- one size more
 pub total_more : (vars : List Domain) (place : ℕ) (d : Domain) → place < length vars → total (sizes_of (drop place vars)) ≡ length (get_or vars place d).values * total (sizes_of (drop (place + 1) vars))
