@@ -11,7 +11,9 @@ use std::alloc::{AllocError, Global};
 use std::fmt::Write;
 use std::test::Fail;
 use xc_base::{Bytes, cut_lines};
-use xc_expr::{Action, Guard, holds, moves, print_action, print_guard, read_action, read_guard};
+use xc_expr::{Action, Guard, read_action, read_guard};
+use xc_expr_text::{print_action, print_guard};
+use xc_moves::{holds, moves};
 use xc_forms::{Vars, state_count};
 use xc_view::View;
 

@@ -4,6 +4,7 @@ use Rattle.std.specs.Prelude.{◌≡◌, ℕ, suc, Bool, true, ◌&&◌, not, Li
 use Rattle.std.specs.List.{list_all}
 use Rattle.xc_base.specs.Names.{is_among}
 use Rattle.xc_base.specs.Words.{is_name}
+use Rattle.xc_forms.specs.VariableNames.{is_variable_name, is_value_name}
 use Rattle.xc_expr.specs.declared.phrase.Phrase.{Phrase}
 use Rattle.xc_expr.specs.declared.phrase.Phrase.TheVariants as phrases
 use Rattle.xc_expr.specs.declared.setting.Setting.{Setting}

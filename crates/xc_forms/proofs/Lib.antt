@@ -6,3 +6,4 @@ pub mod FaultlessLines
 pub mod Restating
 pub mod PrintedLines
 pub mod Short
+pub mod Facts

@@ -8,7 +8,7 @@ use Rattle.xc_theory.specs.Codes.{AreDigits}
 use Rattle.xc_alg.specs.Operations.{Operations}
 use Rattle.xc_forms.specs.Variables.{sizes_of}
 use Rattle.xc_forms.specs.declared.domain.Domain.{Domain}
-use Rattle.xc_expr.proofs.Moving.{digits_length, sizes_length}
+use Rattle.xc_moves.proofs.Moving.{digits_length, sizes_length}
 use Rattle.xc_machine.specs.Joins.{both, picked, joined_onto, joined_from}
 use Rattle.xc_machine.specs.Tabled.{AreWeights}
 

@@ -6,7 +6,7 @@ ghost use Rattle.xc_forms.specs.Variables.{are_fit, sizes_of};
 ghost use Rattle.xc_sigmap.specs.Maps.{value_of as map_of};
 
 use crate::merged::Merged;
-use xc_expr::places_of;
+use xc_moves::places_of;
 use xc_forms::Vars;
 
 /// The state of some places of variables.

@@ -6,7 +6,7 @@ ghost use Rattle.xc_alg.specs.Products.{sizes};
 ghost use Rattle.xc_sigmap.specs.Maps.{value_of as map_of};
 
 use crate::merged::Merged;
-use xc_expr::places_of;
+use xc_moves::places_of;
 
 impl Merged {
     ghost use Rattle.xc_merge.specs.Merges.{for_each, parts_of};

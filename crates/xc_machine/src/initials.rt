@@ -13,7 +13,7 @@ use crate::merged::Merged;
 use crate::tables::Feed;
 use std::alloc::Global;
 use xc_base::{List, Memory};
-use xc_expr::{holds_in, places_of};
+use xc_moves::{holds_in, places_of};
 
 /// Some states in order that are all initial, or of which none is.
 #[derive(Clone, Copy, Debug)]

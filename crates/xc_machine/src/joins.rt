@@ -9,7 +9,7 @@ ghost use Rattle.xc_machine.specs.Joins.{both, has_action_in, has_guard_in, has_
 ghost use Rattle.xc_machine.specs.Tabled.{AreWeights};
 
 use xc_alg::Algebra;
-use xc_expr::{holds_in, moves_in};
+use xc_moves::{holds_in, moves_in};
 use xc_forms::Vars;
 use xc_view::{Command, PropLine};
 

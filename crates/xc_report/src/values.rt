@@ -18,7 +18,7 @@ use crate::told::Told;
 use std::alloc::Global;
 use xc_base::{Bytes, Memory};
 use xc_ctl::Rounds;
-use xc_expr::places_of;
+use xc_moves::places_of;
 use xc_forms::{Domain, Vars};
 use xc_machine::Machine;
 

@@ -8,10 +8,10 @@ use Rattle.xc_base.specs.Canonical.{numbered}
 use Rattle.xc_base.specs.Formats.{IsAccepted}
 use Rattle.xc_base.specs.Names.{has_twice}
 use Rattle.xc_base.specs.Words.{is_name, is_file_word}
-use Rattle.xc_expr.specs.Printing.{named_guard}
+use Rattle.xc_expr_text.specs.Printing.{named_guard}
 use Rattle.xc_expr.specs.Tests.{is_in_range}
 use Rattle.xc_forms.specs.Variables.{names_of, sizes_of, is_domain, are_fit, state_limit}
-use Rattle.xc_expr.specs.Writable.{is_writable_guard}
+use Rattle.xc_expr_text.specs.Writable.{is_writable_guard}
 use Rattle.xc_forms.specs.declared.domain.Domain.{Domain}
 use Rattle.xc_view.specs.Drafts.{command_names}
 use Rattle.xc_view.specs.Parts.{is_prop_in, is_command_in, is_named_var, is_sound}

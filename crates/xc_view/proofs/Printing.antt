@@ -5,7 +5,7 @@ use Rattle.std.proofs.lemmas.List.{drop_all, map-append}
 use Rattle.std.proofs.lemmas.List.Sums.{AllPass-from_list_all}
 use Rattle.std.proofs.lemmas.Bool.{and_parts, and_from}
 use Rattle.xc_base.specs.Canonical.{canonical}
-use Rattle.xc_expr.specs.Printing.{named_guard}
+use Rattle.xc_expr_text.specs.Printing.{named_guard}
 use Rattle.xc_expr.specs.Actions.{is_action_in_range}
 use Rattle.xc_expr.specs.Tests.{Test, test_of, is_in_range}
 use Rattle.xc_forms.specs.declared.domain.Domain.{Domain}

@@ -8,11 +8,11 @@ use Rattle.xc_base.specs.Lines.{text_rows}
 use Rattle.xc_base.specs.Text.{text_fault}
 use Rattle.xc_base.specs.Words.{is_word, is_name}
 use Rattle.xc_base.proofs.CanonicalTexts.{canonical_is_cut, canonical_is_sound}
-use Rattle.xc_expr.specs.LineParts.{IsLinePart}
+use Rattle.xc_expr_text.specs.LineParts.{IsLinePart}
 use Rattle.xc_expr.specs.Written.{Sum, depth_limit}
 use Rattle.xc_forms.specs.VariableNames.{is_value_name}
-use Rattle.xc_expr.proofs.LineParts.{word_part, both_parts, spelled_part, actions_are_line_parts}
-use Rattle.xc_expr.proofs.PrintedTexts.{part_line}
+use Rattle.xc_expr_text.proofs.LineParts.{word_part, both_parts, spelled_part, actions_are_line_parts}
+use Rattle.xc_expr_text.proofs.PrintedTexts.{part_line}
 use Rattle.xc_view.specs.Parts.{is_sound}
 use Rattle.xc_view.specs.Printing.{spelling, statements_in, view_lines}
 use Rattle.xc_view.specs.ViewFiles.{Statement, ViewValue, IsStated, view_format}

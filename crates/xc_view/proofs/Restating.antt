@@ -14,16 +14,16 @@ use Rattle.xc_base.specs.Formats.AreStatements.{none, next}
 use Rattle.xc_base.specs.Names.{is_among, has_twice}
 use Rattle.xc_base.specs.Words.{is_name}
 use Rattle.xc_expr.proofs.ActionSpelling.{actions_are_unique}
-use Rattle.xc_expr.proofs.ActionsAgain.{printed_actions_are_read}
-use Rattle.xc_expr.proofs.GuardPrints.{printed_sum}
+use Rattle.xc_expr_text.proofs.ActionsAgain.{printed_actions_are_read}
+use Rattle.xc_expr_text.proofs.GuardPrints.{printed_sum}
 use Rattle.xc_expr.proofs.GuardReading.{guard_unique}
-use Rattle.xc_expr.proofs.GuardsAgain.{printed_guards_are_read}
+use Rattle.xc_expr_text.proofs.GuardsAgain.{printed_guards_are_read}
 use Rattle.xc_expr.specs.Actions.{is_action_in_range}
-use Rattle.xc_expr.specs.Printing.{named_guard, named_action, guard_tokens}
+use Rattle.xc_expr_text.specs.Printing.{named_guard, named_action, guard_tokens}
 use Rattle.xc_expr.specs.Resolving.{resolved, resolved_action, sets_twice}
 use Rattle.xc_expr.specs.Tests.{Test, is_in_range}
 use Rattle.xc_forms.specs.Variables.{names_of, sizes_of, is_domain, are_fit, state_limit}
-use Rattle.xc_expr.specs.Writable.{has_fit_names, depth_of, is_clear, is_writable_guard, is_writable_action}
+use Rattle.xc_expr_text.specs.Writable.{has_fit_names, depth_of, is_clear, is_writable_guard, is_writable_action}
 use Rattle.xc_expr.specs.Written.{Written, Assigned, IsGuard, IsAction, has_names, action_tokens, depth_limit}
 use Rattle.xc_forms.specs.VariableNames.{is_variable_name, is_value_name}
 use Rattle.xc_expr.specs.declared.assign.Assign.{Assign}

@@ -8,15 +8,15 @@ use Rattle.xc_base.specs.Canonical.{spaced, is_short}
 use Rattle.xc_base.specs.Formats.{Row, AreStatements, IsAccepted}
 use Rattle.xc_base.specs.Formats.AreStatements.{none, next}
 use Rattle.xc_base.specs.Words.{is_name}
-use Rattle.xc_expr.specs.LineParts.{IsNoLonger}
-use Rattle.xc_expr.specs.Printing.{named_guard, named_action, guard_tokens}
+use Rattle.xc_expr_text.specs.LineParts.{IsNoLonger}
+use Rattle.xc_expr_text.specs.Printing.{named_guard, named_action, guard_tokens}
 use Rattle.xc_expr.specs.Resolving.{resolved, resolved_action, sets_twice}
 use Rattle.xc_expr.specs.Tests as tests
 use Rattle.xc_expr.specs.Written.{Written, Assigned, IsGuard, IsAction, action_tokens}
 use Rattle.xc_expr.specs.declared.assign.Assign.{Assign}
 use Rattle.xc_forms.specs.declared.domain.Domain.{Domain}
-use Rattle.xc_expr.proofs.ActionsAgain.{actions_keep_their_tokens}
-use Rattle.xc_expr.proofs.GuardsAgain.{no_print_is_longer}
+use Rattle.xc_expr_text.proofs.ActionsAgain.{actions_keep_their_tokens}
+use Rattle.xc_expr_text.proofs.GuardsAgain.{no_print_is_longer}
 use Rattle.xc_view.specs.Cut.{AreCut}
 use Rattle.xc_view.specs.Drafts.{is_named, is_known, IsFair}
 use Rattle.xc_view.specs.Printing.{spelling, var_statement, prop_statement, command_statement, statements_in, view_lines}

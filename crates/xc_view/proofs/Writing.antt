@@ -3,16 +3,16 @@ use Rattle.std.proofs.Common.{◌≡◌, true, false, ◌&&◌, not, nat_le, Lis
 use Rattle.std.specs.List.{list_all}
 use Rattle.std.proofs.lemmas.Bool.{and_parts, and_from, not-true, leb-true}
 use Rattle.xc_base.specs.Words.{is_name}
-use Rattle.xc_expr.specs.Printing.{guard_tokens}
+use Rattle.xc_expr_text.specs.Printing.{guard_tokens}
 use Rattle.xc_expr.specs.Resolving.{resolved, resolved_action, sets_twice}
 use Rattle.xc_expr.specs.Tests as tests
-use Rattle.xc_expr.specs.Writable.{has_fit_names, depth_of, is_writable_guard, is_writable_action}
+use Rattle.xc_expr_text.specs.Writable.{has_fit_names, depth_of, is_writable_guard, is_writable_action}
 use Rattle.xc_expr.specs.Written.{Written, Assigned, has_names, action_tokens, depth_limit}
 use Rattle.xc_expr.specs.declared.assign.Assign.{Assign}
 use Rattle.xc_forms.specs.declared.domain.Domain.{Domain}
-use Rattle.xc_expr.proofs.ActionsAgain.{read_actions_are_writable}
-use Rattle.xc_expr.proofs.GuardPrints.{printed_sum}
-use Rattle.xc_expr.proofs.GuardsAgain.{read_guards_are_writable}
+use Rattle.xc_expr_text.proofs.ActionsAgain.{read_actions_are_writable}
+use Rattle.xc_expr_text.proofs.GuardPrints.{printed_sum}
+use Rattle.xc_expr_text.proofs.GuardsAgain.{read_guards_are_writable}
 use Rattle.xc_view.specs.Drafts.{is_named, is_guard_written, is_written, IsFair}
 use Rattle.xc_view.specs.ViewFiles.{Statement, View, Lattice, Var, Init, Prop, Command, vars_of, test_in, assigns_in, first_init, props_of, commands_of, view_of}
 use Rattle.xc_view.specs.Writable.{is_writable_prop, is_writable_command, is_writable}

@@ -8,7 +8,7 @@ use Rattle.xc_base.specs.Names.{has_twice}
 use Rattle.xc_base.specs.Words.{is_name, is_file_word}
 use Rattle.xc_forms.specs.Variables.{names_of, sizes_of, is_domain, state_limit}
 use Rattle.xc_expr.specs.Resolving.{resolved, resolved_action, sets_twice}
-use Rattle.xc_expr.specs.Writable.{has_fit_names, depth_of}
+use Rattle.xc_expr_text.specs.Writable.{has_fit_names, depth_of}
 use Rattle.xc_expr.specs.Written.{Written, has_names, depth_limit}
 use Rattle.xc_forms.specs.VariableNames.{is_variable_name, is_value_name}
 use Rattle.xc_forms.specs.declared.domain.Domain.{Domain}

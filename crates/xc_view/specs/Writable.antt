@@ -1,7 +1,7 @@
 -- Which views can be written, so that what is printed of them is read again.
 use Rattle.std.specs.Prelude.{Bool, ◌&&◌, List}
 use Rattle.std.specs.List.{list_all}
-use Rattle.xc_expr.specs.Writable.{is_writable_guard, is_writable_action}
+use Rattle.xc_expr_text.specs.Writable.{is_writable_guard, is_writable_action}
 use Rattle.xc_forms.specs.declared.domain.Domain.{Domain}
 use Rattle.xc_view.specs.ViewFiles.{PropValue, CommandValue, ViewValue}
 

@@ -5,7 +5,7 @@ ghost use Rattle.std.specs.List.{list_all};
 ghost use Rattle.xc_base.specs.Lines.{texts};
 ghost use Rattle.xc_expr.specs.Tests.{test_of, is_in_range};
 ghost use Rattle.xc_expr.specs.Actions.{is_action_in_range};
-ghost use Rattle.xc_expr.specs.Printing.{named_guard};
+ghost use Rattle.xc_expr_text.specs.Printing.{named_guard};
 ghost use Rattle.xc_view.specs.ViewFiles.{View as ViewLine, Lattice as LatticeLine, Init as InitLine};
 ghost use Rattle.xc_view.specs.Parts.{prop_value, command_value};
 ghost use Rattle.xc_view.specs.Printing.{spelling, var_statement, prop_statement, command_statement};
@@ -15,7 +15,8 @@ use crate::lines::{Command, PropLine};
 use crate::view::View;
 use std::alloc::Global;
 use xc_base::{Bytes, Lexeme, List, Memory, Word, push_line};
-use xc_expr::{Guard, push_action, push_guard};
+use xc_expr::Guard;
+use xc_expr_text::{push_action, push_guard};
 use xc_forms::{Domain, Vars};
 
 fn word<'a>(text: &'a [u8]) -> Lexeme<'a>

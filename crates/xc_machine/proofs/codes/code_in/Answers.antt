@@ -2,7 +2,7 @@ use Rattle.std.proofs.Common.{◌+◌, ◌*◌, ◌<◌, ℕ, get_or, drop, ap, 
 use Rattle.xc_theory.specs.Codes.{total, code_of}
 use Rattle.xc_theory.proofs.Codes.{codes_are_in_range}
 use Rattle.xc_forms.specs.Variables.{sizes_of}
-use Rattle.xc_expr.proofs.Moving.{sizes_length}
+use Rattle.xc_moves.proofs.Moving.{sizes_length}
 use Rattle.xc_machine.proofs.Coding.{code_turn, code_small, code_begins, code_ends}
 use Rattle.xc_machine.proofs.Joining.{digits_count}
 use Rattle.xc_machine.proofs.Sound.{size_at, states_few, rest_positive, value_few}

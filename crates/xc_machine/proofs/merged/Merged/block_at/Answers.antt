@@ -1,7 +1,7 @@
 use Rattle.std.proofs.Common.{◌/◌, ℕ, true, false, List, length, get_or, take, ap, subst, ◌∙◌, arith}
 use Rattle.xc_forms.specs.Variables.{sizes_of}
 use Rattle.xc_forms.specs.declared.domain.Domain.{Domain}
-use Rattle.xc_expr.proofs.Moving.{sizes_length}
+use Rattle.xc_moves.proofs.Moving.{sizes_length}
 use Rattle.xc_sigmap.specs.Maps.{value_of as map_of}
 use Rattle.xc_machine.specs.Descent.{AreJudged}
 use Rattle.xc_machine.specs.Gathered.{merged_of}

@@ -1,0 +1,9 @@
+pub mod Printing
+pub mod GuardPrints
+pub mod NamedPlaces
+pub mod ShortPrints
+pub mod LineParts
+pub mod GuardsAgain
+pub mod ActionsAgain
+pub mod PrintedTexts
+pub mod Facts
