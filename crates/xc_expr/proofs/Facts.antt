@@ -3,7 +3,7 @@ use Rattle.std.proofs.Common.{◌≡◌, ℕ, true, false, List, [], ◌∷◌, 
 use Rattle.xc_base.specs.Operators.{chained, chain, chain_up_to}
 use Rattle.xc_forms.specs.declared.domain.Domain.{Domain}
 use Rattle.xc_expr.specs.declared.assign.Assign.TheVariants as assigns
-use Rattle.xc_expr.specs.Written.{IsGuard, action_tokens, Equal, Unequal, True, False, Not, And, Or, To, Next, Prev, Any}
+use Rattle.xc_expr.specs.Written.{IsGuard, action_tokens, Equal, Unequal, True, Not, And, Or, To, Next, Prev, Any}
 use Rattle.xc_expr.specs.Written.IsSpelled.{truth, factor, summand, negated}
 use Rattle.xc_expr.specs.GuardReading.{atom, basic, nested, product, sum}
 use Rattle.xc_expr.specs.ActionReading.{assignment_in, assignments_in}

@@ -1,9 +1,7 @@
 -- Guards and actions as they are written: with names in place of variables and values. A guard's tokens are split at an
 -- operator: `|` binds least, then `&`, and both group to the left.
-use Rattle.std.specs.Prelude.{◌≡◌, ℕ, suc, Bool, true, ◌&&◌, not, List, [], ◌∷◌, ◌++◌, codes}
+use Rattle.std.specs.Prelude.{◌≡◌, ℕ, suc, Bool, true, ◌&&◌, List, [], ◌∷◌, ◌++◌, codes}
 use Rattle.std.specs.List.{list_all}
-use Rattle.xc_base.specs.Names.{is_among}
-use Rattle.xc_base.specs.Words.{is_name}
 use Rattle.xc_forms.specs.VariableNames.{is_variable_name, is_value_name}
 use Rattle.xc_expr.specs.declared.phrase.Phrase.{Phrase}
 use Rattle.xc_expr.specs.declared.phrase.Phrase.TheVariants as phrases

@@ -6,11 +6,11 @@ ghost use Rattle.xc_expr.specs.Resolving.{operand, resolved_action, sets_twice};
 ghost use Rattle.xc_expr.specs.KnownSettings.{name_set, is_set_in, repeats_first, repeats, resolved_setting, resolves};
 
 use crate::assign::{Action, Assign};
-use xc_forms::Vars;
 use crate::operands::{peer, value, variable};
 use crate::setting::Setting;
 use std::alloc::Global;
 use xc_base::{List, Memory};
+use xc_forms::Vars;
 
 fn value_or_copy(vars: &Vars, var: u8, name: &[u8]) -> Option<Assign>
     requires fit { are_fit vars.now ≡ true }

@@ -8,9 +8,9 @@ ghost use Rattle.xc_expr.specs.Reading.{action_in};
 ghost use Rattle.xc_expr.specs.ActionReading.{is_set, set_to_word, set_by_step, assignment_in, assignments_in, is_skip, is_mark_at, assignment_at, reads_from};
 
 use crate::setting::Setting;
-use xc_forms::{is_value_name, is_variable_name};
 use std::alloc::Global;
 use xc_base::{Lexeme, List, Memory};
+use xc_forms::{is_value_name, is_variable_name};
 
 fn is_set(name: &[u8], sign: &[u8]) -> bool
     ensures { result ≡ is_set name.now sign.now }

@@ -11,11 +11,11 @@ ghost use Rattle.xc_expr.specs.ActionOutcomes.{AreKnown, IsNameFault};
 use crate::action_names::{resolve_action, sets_twice};
 use crate::action_parser::parse_action;
 use crate::assign::Action;
-use xc_forms::Vars;
 use crate::fault::ExprFault;
 use crate::setting::Setting;
 use std::alloc::Global;
 use xc_base::Lexeme;
+use xc_forms::Vars;
 
 fn resolve_once(alloc: Global, settings: &[Setting], vars: &Vars) -> Result<Action, ExprFault>
     requires { are_fit vars.now ≡ true }

@@ -7,12 +7,12 @@ ghost use Rattle.xc_expr.specs.Tests.{test_of, is_in_range, Is, IsNot, Same, Dif
 ghost use Rattle.xc_expr.specs.Written.{written};
 ghost use Rattle.xc_expr.specs.Resolving.{resolved, then_some, both, variable, operand};
 
-use xc_forms::Vars;
 use crate::guard::Guard;
 use crate::operands::{peer, value, variable};
 use crate::phrase::Phrase;
 use std::alloc::Global;
 use xc_base::Memory;
+use xc_forms::Vars;
 
 fn equal(vars: &Vars, name: &[u8], right: &[u8]) -> Option<Guard>
     requires { are_fit vars.now ≡ true }

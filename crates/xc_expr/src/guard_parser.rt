@@ -8,9 +8,9 @@ ghost use Rattle.xc_expr.specs.Reading.{guard_in};
 ghost use Rattle.xc_expr.specs.GuardReading.{front_of, atom, comparison, literal, negation, closed, basic, nested, product, sum};
 
 use crate::phrase::Phrase;
-use xc_forms::{is_value_name, is_variable_name};
 use std::alloc::Global;
 use xc_base::{Lexeme, Memory, behind};
+use xc_forms::{is_value_name, is_variable_name};
 
 /// How many `!` and brackets may stand around each other.
 const DEPTH_LIMIT: usize = 64;

@@ -6,13 +6,13 @@ ghost use Rattle.xc_forms.specs.Variables.{are_fit};
 ghost use Rattle.xc_expr.specs.Tests.{test_of, is_in_range};
 ghost use Rattle.xc_expr.specs.Outcomes.{IsTest, IsGuardFault};
 
-use xc_forms::Vars;
 use crate::fault::ExprFault;
 use crate::guard::Guard;
 use crate::guard_names::resolve_guard;
 use crate::guard_parser::parse_guard;
 use std::alloc::Global;
 use xc_base::Lexeme;
+use xc_forms::Vars;
 
 /// The guard that the tokens are.
 #[tactic(auto, using(crate::proofs::GuardOutcomes::guard_steps))]

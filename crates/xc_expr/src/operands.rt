@@ -7,8 +7,8 @@ ghost use Rattle.xc_base.specs.Names.{are_same};
 ghost use Rattle.xc_forms.specs.Variables.{are_fit, values_at};
 ghost use Rattle.xc_expr.specs.Resolving.{variable, value, peer};
 
-use xc_forms::{Domain, Vars};
 use xc_base::{Word, find_name};
+use xc_forms::{Domain, Vars};
 
 fn is_called(domain: &Domain, name: &[u8]) -> bool
     ensures { result ≡ is_called name.now domain.now }

@@ -7,12 +7,12 @@ ghost use Rattle.xc_expr.specs.Outcomes.{tokens_at, IsTest, IsGuardFault, AreAss
 
 use crate::action_reader::action_of;
 use crate::assign::Action;
-use xc_forms::Vars;
 use crate::fault::ExprFault;
 use crate::guard::Guard;
 use crate::guard_reader::guard_of;
 use std::alloc::Global;
 use xc_base::Lines;
+use xc_forms::Vars;
 
 /// The guard that the tokens of a row from one place up to another are.
 ///

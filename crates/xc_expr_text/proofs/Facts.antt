@@ -6,7 +6,6 @@ use Rattle.xc_expr.specs.Written.{Equal, Unequal, True, False, Not, And, Or, To,
 use Rattle.xc_expr_text.specs.Printing.{named_guard, named_action, guard_tokens}
 use Rattle.xc_expr.specs.Tests as tests
 use Rattle.xc_expr_text.specs.Writable.{depth_of, is_writable_guard, is_writable_action}
-
 use Rattle.xc_expr.proofs.Facts.{x, y, o, x0, vars}
 
 -- places by their names: a value by its variable's list, and two variables by their own names

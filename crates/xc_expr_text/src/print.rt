@@ -14,11 +14,10 @@ ghost use Rattle.xc_expr_text.specs.PrintSteps.{only_if, tokens_behind};
 ghost use Rattle.xc_expr_text.specs.PrintedTexts.{IsTextOfTest, IsTextOfAssigns};
 ghost use Rattle.xc_expr_text.specs.Writable.{is_writable_guard, is_writable_action};
 
-use xc_expr::{Action, Assign};
-use xc_forms::Vars;
-use xc_expr::Guard;
 use std::alloc::Global;
 use xc_base::{Bytes, Lexeme, List, Memory, is_word_text, spaced};
+use xc_expr::{Action, Assign, Guard};
+use xc_forms::Vars;
 
 /// Appends a token.
 #[tactic(auto, using(crate::proofs::Printing::push_steps))]

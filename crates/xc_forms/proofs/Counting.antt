@@ -6,7 +6,7 @@ use Rattle.std.proofs.lemmas.Bool.{and_parts, leb-true}
 use Rattle.std.proofs.lemmas.List.{drop_all}
 use Rattle.std.proofs.lemmas.List.Sums.{AllPass-from_list_all}
 use Rattle.xc_theory.specs.Codes.{total}
-use Rattle.xc_forms.specs.Variables.{are_fit, is_domain, sizes_of, state_limit}
+use Rattle.xc_forms.specs.Variables.{is_domain, sizes_of, state_limit}
 use Rattle.xc_forms.specs.declared.domain.Domain.{Domain}
 
 -- one size more

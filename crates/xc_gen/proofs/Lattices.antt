@@ -2,7 +2,8 @@
 use Rattle.std.proofs.Common.{◌≡◌, ℕ, true, List, [], ◌∷◌, ◌++◌, get_or, refl, ap, subst, ◌∙◌}
 use Rattle.xc_base.specs.Formats.{Row, AreStatements}
 use Rattle.xc_view.specs.ViewFiles as files
-use Rattle.xc_view.specs.ViewFiles.{Statement, View, Lattice, Var, Init, Prop, Command, IsStated, is_view, is_lattice, first_lattice, view_format}
+use Rattle.xc_view.specs.ViewFiles.{is_view, is_lattice, first_lattice, view_format}
+use Rattle.xc_view_lines.specs.ViewLines.{Statement, View, Lattice, Var, Init, Prop, Command, IsStated}
 use Rattle.xc_gen.specs.declared.side.Side.{Side}
 use Rattle.xc_gen.specs.Generated.{lattice_of}
 use Rattle.xc_gen.specs.Links.{NamesItsLattice}

@@ -4,9 +4,9 @@ ghost use Rattle.xc_forms.specs.Variables.{are_fit, sizes_of};
 ghost use Rattle.xc_expr.specs.Actions.{assigned, assigns, gives, allows, is_assign_in_range, is_action_in_range};
 ghost use Rattle.xc_moves.specs.Moving.{goes_at, goes_from};
 
+use crate::places::{places_of, size_of};
 use xc_expr::{Action, Assign};
 use xc_forms::Vars;
-use crate::places::{places_of, size_of};
 
 /// The variable that is assigned.
 fn assigned(assign: &Assign) -> usize

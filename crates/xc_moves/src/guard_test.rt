@@ -3,9 +3,9 @@ ghost use Rattle.xc_theory.specs.Codes.{total, digits};
 ghost use Rattle.xc_forms.specs.Variables.{are_fit, sizes_of};
 ghost use Rattle.xc_expr.specs.Tests.{test_of, is_in_range, holds_at};
 
-use xc_forms::Vars;
-use xc_expr::Guard;
 use crate::places::places_of;
+use xc_expr::Guard;
+use xc_forms::Vars;
 
 /// Whether a guard holds where the variables have these places.
 pub fn holds_in(guard: &Guard, vars: &Vars, places: &[u8]) -> bool

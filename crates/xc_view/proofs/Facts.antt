@@ -12,8 +12,10 @@ use Rattle.xc_expr.specs.ActionReading.{assignment_in, assignments_in}
 use Rattle.xc_expr.specs.Reading.{guard_in, action_in}
 use Rattle.xc_expr.specs.Tests as tests
 use Rattle.xc_expr.specs.declared.assign.Assign.TheVariants as assigns
-use Rattle.xc_view.specs.ViewFiles.{ViewValue, View, Lattice, Var, var_excess, missing_part, view_format}
-use Rattle.xc_view.specs.Deciding.{decide, line, word_line, command_parts}
+use Rattle.xc_view.specs.ViewFiles.{ViewValue, var_excess, missing_part, view_format}
+use Rattle.xc_view_lines.specs.ViewLines.{View, Lattice, Var}
+use Rattle.xc_view.specs.Deciding.{decide}
+use Rattle.xc_view_lines.specs.LineReading.{line, word_line, command_parts}
 use Rattle.xc_view.specs.Printing.{view_lines}
 use Rattle.xc_view.specs.Writable.{is_writable}
 use Rattle.xc_view.specs.Meaning.{step_words, prop_words, step_value, prop_value_at, is_initial}

@@ -8,10 +8,10 @@ use Rattle.xc_forms.specs.declared.domain.Domain.{Domain}
 use Rattle.xc_view.specs.ViewFiles.{PropValue, CommandValue, ViewValue, vars_of, is_lattice, first_name, first_lattice, first_init, props_of, commands_of, missing_part}
 use Rattle.xc_view.specs.Parts.{is_sound}
 use Rattle.xc_view.specs.Writable.{is_writable}
-use Rattle.xc_view.specs.Statements.{stated}
+use Rattle.xc_view_lines.specs.Statements.{stated}
 use Rattle.xc_view.specs.Drafts.{all_stated, begins, is_known}
 use Rattle.xc_view.specs.declared.draft.Draft.{Draft}
-use Rattle.xc_view.specs.declared.statement.Statement as code
+use Rattle.xc_view_lines.specs.declared.statement.Statement as code
 use Rattle.xc_view.proofs.Sizes.{fit_from_sized}
 use Rattle.xc_view.proofs.Sound.{two_there, var_there, view_is_sound}
 use Rattle.xc_view.proofs.Writing.{view_is_writable}

@@ -6,10 +6,11 @@ use Rattle.std.proofs.lemmas.List.Folds.{list_all-map}
 use Rattle.std.proofs.lemmas.Bool.{and_parts}
 use Rattle.xc_expr.specs.Tests.{Test}
 use Rattle.xc_forms.specs.declared.domain.Domain.{Domain}
-use Rattle.xc_view.specs.ViewFiles.{Statement, View, Lattice, Var, Init, Prop, Command, PropValue, CommandValue, ViewValue, vars_of, is_view, is_lattice, first_name, first_lattice, first_init, props_of, commands_of, view_of}
-use Rattle.xc_view.specs.Statements.{stated}
+use Rattle.xc_view.specs.ViewFiles.{PropValue, CommandValue, ViewValue, vars_of, is_view, is_lattice, first_name, first_lattice, first_init, props_of, commands_of, view_of}
+use Rattle.xc_view_lines.specs.ViewLines.{Statement, View, Lattice, Var, Init, Prop, Command}
+use Rattle.xc_view_lines.specs.Statements.{stated}
 use Rattle.xc_view.specs.Drafts.{all_stated, begins, is_known}
-use Rattle.xc_view.specs.declared.statement.Statement as code
+use Rattle.xc_view_lines.specs.declared.statement.Statement as code
 
 -- each of the statements has known names
 pub known_at : (vars : List Domain) (ss : List code.Statement) (i : ℕ) (d : code.Statement) → list_all (is_known vars) (all_stated ss) ≡ true → i < length ss → is_known vars (stated (get_or ss i d)) ≡ true

@@ -9,13 +9,14 @@ use Rattle.xc_base.specs.Deciding.{Gives, line_of, statements_of}
 use Rattle.xc_base.specs.Lines.{row_at}
 use Rattle.xc_base.proofs.Rows.{row_first}
 use Rattle.xc_base.proofs.Deciding.{statements_of-end, statements_of-next, statements_of-stops, line_sound}
-use Rattle.xc_view.specs.Statements.{stated}
+use Rattle.xc_view_lines.specs.Statements.{stated}
 use Rattle.xc_view.specs.Drafts.{all_stated, IsFair}
-use Rattle.xc_view.specs.declared.statement.Statement as code
+use Rattle.xc_view_lines.specs.declared.statement.Statement as code
 use Rattle.xc_view.proofs.Stated.{stated_with}
 use Rattle.xc_view.proofs.Fair.{next_is_fair}
 use Rattle.xc_view.proofs.Deciding.{decides}
-use Rattle.xc_view.specs.ViewFiles.{Statement, view_format}
+use Rattle.xc_view.specs.ViewFiles.{view_format}
+use Rattle.xc_view_lines.specs.ViewLines.{Statement}
 use Rattle.xc_view.specs.Deciding.{decide}
 
 -- a row that is read gives one more fair statement

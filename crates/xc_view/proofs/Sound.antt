@@ -15,11 +15,12 @@ use Rattle.xc_forms.specs.VariableNames.{is_variable_name, is_value_name}
 use Rattle.xc_expr.specs.Resolving.{resolved, resolved_action, sets_twice}
 use Rattle.xc_forms.specs.declared.domain.Domain.{Domain}
 use Rattle.xc_expr.specs.declared.assign.Assign.{Assign}
-use Rattle.xc_view.specs.ViewFiles.{Statement, View, Lattice, Var, Init, Prop, Command, CommandValue, ViewValue, vars_of, is_view, is_lattice, is_init, is_prop, is_command, count_of, line_limit, missing_part, test_in, assigns_in, first_name, first_lattice, first_init, props_of, commands_of, view_of}
+use Rattle.xc_view.specs.ViewFiles.{CommandValue, ViewValue, vars_of, is_view, is_lattice, is_init, is_prop, is_command, count_of, line_limit, missing_part, test_in, assigns_in, first_name, first_lattice, first_init, props_of, commands_of, view_of}
+use Rattle.xc_view_lines.specs.ViewLines.{Statement, View, Lattice, Var, Init, Prop, Command}
 use Rattle.xc_view.specs.Parts.{is_prop_in, is_command_in, is_named_var, is_sound}
 use Rattle.xc_view.specs.Drafts.{begins, is_named, command_names, IsFair}
 use Rattle.xc_view.proofs.Sizes.{fit_from_sized}
-use Rattle.xc_view.proofs.Expressions.{guards_in_range, actions_in_range}
+use Rattle.xc_view_lines.proofs.Expressions.{guards_in_range, actions_in_range}
 
 -- an option with a value is not empty
 some_is_not : {X : Type 0} (x : X) → Some x ≡ None → ⊥

@@ -7,12 +7,13 @@ use Rattle.std.specs.Str.{bytes_eq}
 use Rattle.xc_base.specs.Names.{is_among}
 use Rattle.xc_forms.specs.Variables.{names_of}
 use Rattle.xc_forms.specs.declared.domain.Domain.{Domain}
-use Rattle.xc_view.specs.ViewFiles.{Statement, vars_of, is_init, missing_part, count_of}
+use Rattle.xc_view.specs.ViewFiles.{vars_of, is_init, missing_part, count_of}
+use Rattle.xc_view_lines.specs.ViewLines.{Statement}
 use Rattle.xc_base.specs.declared.fault.Part.TheVariants as parts
-use Rattle.xc_view.specs.Statements.{stated}
+use Rattle.xc_view_lines.specs.Statements.{stated}
 use Rattle.xc_view.specs.Drafts.{all_stated, IsFair}
 use Rattle.xc_view.proofs.Fair.{vars_append}
-use Rattle.xc_view.specs.declared.statement.Statement as code
+use Rattle.xc_view_lines.specs.declared.statement.Statement as code
 
 -- whether one of them passes a test
 pub any_stated : (p : Statement → Bool) (ss : List code.Statement) → list_any p (all_stated ss) ≡ list_any (λ (s : code.Statement). p (stated s)) ss

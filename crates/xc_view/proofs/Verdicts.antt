@@ -8,10 +8,11 @@ use Rattle.xc_base.specs.Formats.{Row, IsAccepted, IsFirstFault}
 use Rattle.xc_base.specs.Deciding.{file_of}
 use Rattle.xc_base.specs.Judging.{AreWhole}
 use Rattle.xc_base.proofs.Deciding.{gives_statements, gives_faults, statements_are_unique, first_faults_are_unique, accepted_has_no_fault, each_is_judged}
-use Rattle.xc_view.specs.ViewFiles.{Statement, ViewValue, missing_part, view_of, view_format}
+use Rattle.xc_view.specs.ViewFiles.{ViewValue, missing_part, view_of, view_format}
+use Rattle.xc_view_lines.specs.ViewLines.{Statement}
 use Rattle.xc_view.specs.Deciding.{decide}
 use Rattle.xc_view.specs.Laws.{ViewsAreUnique, FaultsAreUnique, AcceptedHasNoFault, EachIsJudged}
-use Rattle.xc_view.specs.Statements.{GivesAs}
+use Rattle.xc_view_lines.specs.Statements.{GivesAs}
 use Rattle.xc_view.specs.Views.{IsStop}
 use Rattle.xc_view.specs.declared.view.View.{View}
 use Rattle.xc_view.proofs.Deciding.{decides}

@@ -14,7 +14,8 @@ use Rattle.xc_expr_text.proofs.ActionsAgain.{read_actions_are_writable}
 use Rattle.xc_expr_text.proofs.GuardPrints.{printed_sum}
 use Rattle.xc_expr_text.proofs.GuardsAgain.{read_guards_are_writable}
 use Rattle.xc_view.specs.Drafts.{is_named, is_guard_written, is_written, IsFair}
-use Rattle.xc_view.specs.ViewFiles.{Statement, View, Lattice, Var, Init, Prop, Command, vars_of, test_in, assigns_in, first_init, props_of, commands_of, view_of}
+use Rattle.xc_view.specs.ViewFiles.{vars_of, test_in, assigns_in, first_init, props_of, commands_of, view_of}
+use Rattle.xc_view_lines.specs.ViewLines.{Statement, View, Lattice, Var, Init, Prop, Command}
 use Rattle.xc_view.specs.Writable.{is_writable_prop, is_writable_command, is_writable}
 
 module _ (vars : List Domain) where

@@ -12,9 +12,10 @@ use Rattle.xc_expr_text.specs.Writable.{has_fit_names, depth_of}
 use Rattle.xc_expr.specs.Written.{Written, has_names, depth_limit}
 use Rattle.xc_forms.specs.VariableNames.{is_variable_name, is_value_name}
 use Rattle.xc_forms.specs.declared.domain.Domain.{Domain}
-use Rattle.xc_view.specs.ViewFiles.{Statement, View, Lattice, Var, Init, Prop, Command, vars_of, is_view, is_lattice, is_prop, is_command, count_of, line_limit}
-use Rattle.xc_view.specs.Statements.{stated}
-use Rattle.xc_view.specs.declared.statement.Statement as code
+use Rattle.xc_view.specs.ViewFiles.{vars_of, is_view, is_lattice, is_prop, is_command, count_of, line_limit}
+use Rattle.xc_view_lines.specs.ViewLines.{Statement, View, Lattice, Var, Init, Prop, Command}
+use Rattle.xc_view_lines.specs.Statements.{stated}
+use Rattle.xc_view_lines.specs.declared.statement.Statement as code
 
 -- the first is the name, and the second the lattice
 abbrev pub begins : List Statement → Bool

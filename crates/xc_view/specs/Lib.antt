@@ -3,11 +3,9 @@ pub mod Parts
 pub mod Views
 pub mod Meaning
 pub mod Printing
-pub mod Spelled
 pub mod Writable
 pub mod Cut
 pub mod Deciding
 pub mod Laws
-pub mod Statements
 pub mod Drafts
 pub mod Drafted

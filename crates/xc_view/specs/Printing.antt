@@ -3,7 +3,8 @@ use Rattle.std.specs.Prelude.{ℕ, List, [], ◌∷◌, ◌++◌, map, codes}
 use Rattle.xc_expr_text.specs.Printing.{named_guard, named_action, guard_tokens}
 use Rattle.xc_expr.specs.Written.{action_tokens}
 use Rattle.xc_forms.specs.declared.domain.Domain.{Domain}
-use Rattle.xc_view.specs.ViewFiles.{Statement, View, Lattice, Var, Init, Prop, Command, PropValue, CommandValue, ViewValue}
+use Rattle.xc_view.specs.ViewFiles.{PropValue, CommandValue, ViewValue}
+use Rattle.xc_view_lines.specs.ViewLines.{Statement, View, Lattice, Var, Init, Prop, Command}
 
 -- the tokens of a statement
 abbrev pub spelling : Statement → List (List ℕ)

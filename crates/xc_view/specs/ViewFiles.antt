@@ -3,7 +3,6 @@ use Rattle.std.specs.Prelude.{◌≡◌, ℕ, ◌+◌, Bool, true, false, ◌&&�
 use Rattle.std.specs.List.{list_any, list_all}
 use Rattle.std.specs.Option.{is_none}
 use Rattle.xc_theory.specs.Codes.{total}
-use Rattle.xc_base.specs.Words.{is_name, is_file_word}
 use Rattle.xc_base.specs.Names.{is_among, has_twice}
 use Rattle.xc_base.specs.Formats.{Format, Excess}
 use Rattle.xc_base.specs.declared.fault.Part.{Part}
@@ -11,31 +10,11 @@ use Rattle.xc_base.specs.declared.fault.Part.TheVariants as parts
 use Rattle.xc_base.specs.declared.fault.Counted.TheVariants as counted
 use Rattle.xc_forms.specs.Variables.{names_of, sizes_of, state_limit}
 use Rattle.xc_expr.specs.Tests as tests
-use Rattle.xc_expr.specs.Written.{Written, Assigned, IsGuard, IsAction}
-use Rattle.xc_forms.specs.VariableNames.{is_variable_name, is_value_name}
+use Rattle.xc_expr.specs.Written.{Written, Assigned}
 use Rattle.xc_expr.specs.Resolving.{resolved, resolved_action, sets_twice}
 use Rattle.xc_forms.specs.declared.domain.Domain.{Domain}
+use Rattle.xc_view_lines.specs.ViewLines.{Statement, View, Lattice, Var, Init, Prop, Command, IsStated}
 use Rattle.xc_expr.specs.declared.assign.Assign.{Assign}
-
--- a statement of a viewpoint file; guards and actions have names in place of variables and values
-pub data Statement : Type 0 where
-  View : List ℕ → Statement
-  Lattice : List ℕ → Statement
-  Var : List ℕ → List (List ℕ) → Statement
-  Init : Written → Statement
-  Prop : List ℕ → List ℕ → Written → Statement
-  Command : List ℕ → List ℕ → Written → List Assigned → Statement
-
--- the tokens are that statement
-pub data IsStated : List (List ℕ) → Statement → Type 0 where
-  view : (name : List ℕ) → is_name name ≡ true → IsStated (codes "view" ∷ name ∷ []) (View name)
-  lattice : (file : List ℕ) → is_file_word file ≡ true → IsStated (codes "lattice" ∷ file ∷ []) (Lattice file)
-  var : (name value : List ℕ) (values : List (List ℕ)) → is_variable_name name ≡ true → list_all is_value_name (value ∷ values) ≡ true → IsStated (codes "var" ∷ name ∷ value ∷ values) (Var name (value ∷ values))
-  init : (tokens : List (List ℕ)) (guard : Written) → IsGuard tokens guard → IsStated (codes "init" ∷ tokens) (Init guard)
-  prop : (name value : List ℕ) (tokens : List (List ℕ)) (guard : Written) → is_name name ≡ true → is_name value ≡ true → IsGuard tokens guard → IsStated (codes "prop" ∷ name ∷ value ∷ codes "when" ∷ tokens) (Prop name value guard)
-  command : (name value : List ℕ) (tokens more : List (List ℕ)) (guard : Written) (action : List Assigned)
-      → is_name name ≡ true → is_name value ≡ true → IsGuard tokens guard → IsAction more action
-      → IsStated (codes "command" ∷ name ∷ codes "with" ∷ value ∷ codes "when" ∷ tokens ++ codes "do" ∷ more) (Command name value guard action)
 
 -- the variables of the statements, in order
 abbrev pub vars_of : List Statement → List Domain

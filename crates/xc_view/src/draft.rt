@@ -1,9 +1,9 @@
 ghost use Rattle.std.specs.Prelude.{◌≡◌, ◌++◌, ◌∷◌, [], IfOk, OnOk};
 ghost use Rattle.xc_view.specs.ViewFiles.{vars_of};
-ghost use Rattle.xc_view.specs.Statements.{stated};
+ghost use Rattle.xc_view_lines.specs.Statements.{stated};
 ghost use Rattle.xc_view.specs.Drafts.{all_stated, IsFair};
 
-use crate::statement::Statement;
+use xc_view_lines::Statement;
 use std::alloc::Global;
 use xc_base::{List, Memory};
 use xc_forms::{Vars, copy_domain};

@@ -1,11 +1,11 @@
 ghost use Rattle.std.specs.Prelude.{◌≡◌, map};
 ghost use Rattle.std.specs.List.{list_any};
 ghost use Rattle.xc_view.specs.ViewFiles.{is_behind_vars, is_due_late, is_due};
-ghost use Rattle.xc_view.specs.Statements.{stated};
+ghost use Rattle.xc_view_lines.specs.Statements.{stated};
 ghost use Rattle.xc_view.specs.Drafts.{all_stated};
 
 use crate::draft::Draft;
-use crate::statement::Statement;
+use xc_view_lines::Statement;
 
 fn is_behind_vars(s: &Statement) -> bool
     ensures { result ≡ is_behind_vars (stated s.now) }

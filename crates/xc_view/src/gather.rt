@@ -8,13 +8,13 @@ ghost use Rattle.xc_expr.specs.Written.{written, set};
 ghost use Rattle.xc_view.specs.ViewFiles.{is_view, is_lattice, test_in, assigns_in, first_name, first_lattice, first_init, props_of, commands_of, view_of, missing_part};
 ghost use Rattle.xc_view.specs.Parts.{prop_value, command_value};
 ghost use Rattle.xc_view.specs.Views.{value_of};
-ghost use Rattle.xc_view.specs.Statements.{stated};
+ghost use Rattle.xc_view_lines.specs.Statements.{stated};
 ghost use Rattle.xc_view.specs.Drafts.{all_stated, is_known};
 ghost use Rattle.xc_view.specs.Drafted.{drafted};
 
 use crate::draft::Draft;
 use crate::lines::{Command, PropLine};
-use crate::statement::Statement;
+use xc_view_lines::Statement;
 use crate::view::View;
 use std::alloc::Global;
 use xc_base::{List, Memory, Word};

@@ -7,12 +7,12 @@ ghost use Rattle.xc_forms.specs.Variables.{are_fit};
 ghost use Rattle.xc_expr.specs.Written.{written, set};
 ghost use Rattle.xc_expr.specs.Resolving.{resolved, resolved_action};
 ghost use Rattle.xc_view.specs.ViewFiles.{is_due, is_init, is_command_of, is_repeated, is_unknown, view_format};
-ghost use Rattle.xc_view.specs.Statements.{stated};
+ghost use Rattle.xc_view_lines.specs.Statements.{stated};
 ghost use Rattle.xc_view.specs.Drafts.{all_stated};
 
 use crate::draft::Draft;
 use crate::limits::limit_fault;
-use crate::statement::Statement;
+use xc_view_lines::Statement;
 use std::alloc::Global;
 use xc_base::{FileFault, Memory, Word, has_twice};
 use xc_expr::{Phrase, Setting, resolve_action, resolve_guard, sets_twice};

@@ -2,17 +2,14 @@
 #![tactic(auto)]
 
 mod copies;
-mod decide;
 mod draft;
 mod due;
 mod gather;
 mod judge;
 mod limits;
 mod lines;
-mod print;
 mod reader;
 mod rows;
-mod statement;
 mod verdict;
 mod view;
 

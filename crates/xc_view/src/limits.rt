@@ -4,11 +4,11 @@ ghost use Rattle.xc_theory.specs.Codes.{total};
 ghost use Rattle.xc_base.specs.Deciding.{excess_fault};
 ghost use Rattle.xc_forms.specs.Variables.{sizes_of, is_domain, state_limit};
 ghost use Rattle.xc_view.specs.ViewFiles.{is_prop, is_command, count_of, line_limit, line_excess, var_excess, excess_of};
-ghost use Rattle.xc_view.specs.Statements.{stated};
+ghost use Rattle.xc_view_lines.specs.Statements.{stated};
 ghost use Rattle.xc_view.specs.Drafts.{all_stated};
 
 use crate::draft::Draft;
-use crate::statement::Statement;
+use xc_view_lines::Statement;
 use xc_base::{Counted, FileFault};
 use xc_forms::{Vars, state_count};
 

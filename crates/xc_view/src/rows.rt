@@ -4,15 +4,15 @@ ghost use Rattle.xc_base.specs.Deciding.{line_of, statements_of, file_of};
 ghost use Rattle.xc_base.specs.Lines.{texts, rows_in, row_at};
 ghost use Rattle.xc_view.specs.ViewFiles.{is_due, missing_part, view_format};
 ghost use Rattle.xc_view.specs.Deciding.{decide};
-ghost use Rattle.xc_view.specs.Statements.{stated, GivesAs};
+ghost use Rattle.xc_view_lines.specs.Statements.{stated, GivesAs};
 ghost use Rattle.xc_view.specs.Drafts.{all_stated};
 ghost use Rattle.xc_view.specs.Drafted.{drafted};
 
-use crate::decide::line;
+use xc_view_lines::line;
 use crate::draft::Draft;
 use crate::due::is_due;
 use crate::judge::{has_init, judge};
-use crate::statement::Statement;
+use xc_view_lines::Statement;
 use std::alloc::Global;
 use xc_base::{FileFault, Lexeme, Lines, Memory, Part, Stop};
 

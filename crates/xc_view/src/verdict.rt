@@ -6,7 +6,8 @@ use xc_base::{FileKind, files_are_judged_once};
 pub struct ViewFiles;
 
 impl FileKind for ViewFiles {
-    ghost use Rattle.xc_view.specs.ViewFiles.{Statement as Stated, ViewValue, view_format};
+    ghost use Rattle.xc_view.specs.ViewFiles.{ViewValue, view_format};
+    ghost use Rattle.xc_view_lines.specs.ViewLines.{Statement as Stated};
     ghost use Rattle.xc_view.specs.Deciding.{decide};
 
     ghost Statement = { Stated };

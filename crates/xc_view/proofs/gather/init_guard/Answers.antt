@@ -1,8 +1,8 @@
 use Rattle.std.proofs.Common.{sym, ◌∙◌, ap}
 use Rattle.std.proofs.lemmas.Bool.{not-true}
-use Rattle.xc_view.specs.Statements.{stated}
+use Rattle.xc_view_lines.specs.Statements.{stated}
 use Rattle.xc_view.specs.Drafts.{is_known}
-use Rattle.xc_view.specs.declared.statement.Statement as code
+use Rattle.xc_view_lines.specs.declared.statement.Statement as code
 use Rattle.xc_view.proofs.Gathering.{known_at}
 use Rattle.xc_view.proofs.gather.init_guard.Goals as goal
 

@@ -1,5 +1,5 @@
 use Rattle.xc_base.specs.Lines.{rows_in, row_at}
-use Rattle.xc_view.specs.Statements.{stated}
+use Rattle.xc_view_lines.specs.Statements.{stated}
 use Rattle.xc_view.specs.Drafts.{all_stated}
 use Rattle.xc_view.proofs.Reading.{row_is_fair}
 use Rattle.xc_view.proofs.rows.read_rows.Goals as goal

@@ -1,0 +1,3 @@
+pub mod ViewLines
+pub mod LineReading
+pub mod Statements

@@ -1,0 +1,4 @@
+pub mod Printing
+pub mod Restating
+pub mod Again
+pub mod Rereading
