@@ -12,6 +12,7 @@ use Rattle.xc_base.specs.declared.fault.FileFault.{FileFault}
 use Rattle.xc_forms.specs.Variables.{sizes_of}
 use Rattle.xc_forms.specs.declared.domain.Domain.{Domain}
 use Rattle.xc_lattice.specs.LatticeFiles.{LatticeValue}
+use Rattle.xc_view_lines.specs.ViewLines as statements
 use Rattle.xc_view.specs.ViewFiles as views
 use Rattle.xc_view.specs.Deciding as view_lines
 use Rattle.xc_sigmap.specs.MapFiles as maps
@@ -59,14 +60,14 @@ place Left = 0
 place Right = 1
 
 -- what texts are read as
-abbrev pub view_read : Side → ℕ → ℕ → Result (List views.Statement) FileFault
+abbrev pub view_read : Side → ℕ → ℕ → Result (List statements.Statement) FileFault
 view_read side number size = file_of views.view_format view_lines.decide (text_rows (view_text side number size))
 
 abbrev pub map_read : ℕ → Result (List stated.Statement) FileFault
 map_read size = file_of maps.map_format map_lines.decide (text_rows (map_text size))
 
 -- a viewpoint of these statements
-abbrev pub point : Side → List views.Statement → Viewpoint
+abbrev pub point : Side → List statements.Statement → Viewpoint
 point side ss = record { view = views.view_of ss; lattice = lattice_on side }
 
 -- whether variables, from number j on, are seen as the map's of the same number
@@ -87,7 +88,7 @@ fits plan v p =
     has_none (viewpoint_faults plan v p) && (is_initial_for plan 0 v p
     && (bytes_eq (sizes_of p.view.vars) (sizes_of plan.vars) && (are_seen plan v 0 p.view.vars && are_zeros (length p.view.vars - 1) p.view.init)))
 
-abbrev pub view_fits : maps.MapValue → Side → List ℕ → Result (List views.Statement) FileFault → Bool
+abbrev pub view_fits : maps.MapValue → Side → List ℕ → Result (List statements.Statement) FileFault → Bool
 view_fits plan side text (Ok ss) = is_none (text_fault file_limit text) && fits plan (place side) (point side ss)
 view_fits plan side text (Err fault) = false
 

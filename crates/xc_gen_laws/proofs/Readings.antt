@@ -11,6 +11,7 @@ use Rattle.xc_base.specs.Text.{text_fault}
 use Rattle.xc_base.specs.declared.fault.TextFault.{TextFault}
 use Rattle.xc_base.specs.declared.fault.FileFault.{FileFault}
 use Rattle.xc_forms.specs.Variables.{sizes_of}
+use Rattle.xc_view_lines.specs.ViewLines as statements
 use Rattle.xc_view.specs.ViewFiles as views
 use Rattle.xc_view.proofs.Verdicts.{view_accepted}
 use Rattle.xc_sigmap.specs.MapFiles as maps
@@ -37,7 +38,7 @@ no_fault : (o : Option TextFault) → is_none o ≡ true → o ≡ None
 no_fault None h = refl
 no_fault (Some x) h = absurd (false≢true h)
 
-view_of : (plan : maps.MapValue) (side : Side) (number size : ℕ) (o : Result (List views.Statement) FileFault) → view_read side number size ≡ o → view_fits plan side (view_text side number size) o ≡ true → ViewRead plan side (view_text side number size)
+view_of : (plan : maps.MapValue) (side : Side) (number size : ℕ) (o : Result (List statements.Statement) FileFault) → view_read side number size ≡ o → view_fits plan side (view_text side number size) o ≡ true → ViewRead plan side (view_text side number size)
 view_of plan side number size (Ok ss) e h =
     let parts = and_parts (is_none (text_fault file_limit (view_text side number size))) (fits plan (place side) (point side ss)) h in
     record {

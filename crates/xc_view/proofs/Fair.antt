@@ -18,7 +18,7 @@ use Rattle.xc_expr.specs.Resolving.{resolved, resolved_action, sets_twice}
 use Rattle.xc_forms.specs.declared.domain.Domain.{Domain}
 use Rattle.xc_view.specs.ViewFiles.{vars_of, is_view, is_lattice, is_due, is_behind_vars, is_repeated, is_unknown, is_prop, is_command, is_command_of, count_of, line_limit, line_excess, var_excess, excess_of, view_format}
 use Rattle.xc_view_lines.specs.ViewLines.{Statement, View, Lattice, Var, Init, Prop, Command, IsStated}
-use Rattle.xc_view.specs.ViewFiles.IsStated.{view, lattice, var, init, prop, command}
+use Rattle.xc_view_lines.specs.ViewLines.IsStated.{view, lattice, var, init, prop, command}
 use Rattle.xc_expr_text.specs.Writable.{has_fit_names, depth_of}
 use Rattle.xc_expr.specs.Written.{Written, Sum, IsGuard, has_names, depth_limit}
 use Rattle.xc_forms.specs.VariableNames.{is_variable_name, is_value_name}

@@ -22,7 +22,7 @@ use Rattle.xc_view.specs.Drafts.{is_named, is_known, IsFair}
 use Rattle.xc_view.specs.Printing.{spelling, var_statement, prop_statement, command_statement, statements_in, view_lines}
 use Rattle.xc_view.specs.ViewFiles.{ViewValue, vars_of, test_in, assigns_in, first_name, first_lattice, first_init, props_of, commands_of, view_of, view_format}
 use Rattle.xc_view_lines.specs.ViewLines.{Statement, View, Lattice, Var, Init, Prop, Command, IsStated}
-use Rattle.xc_view.specs.ViewFiles.IsStated.{view, lattice, var, init, prop, command}
+use Rattle.xc_view_lines.specs.ViewLines.IsStated.{view, lattice, var, init, prop, command}
 use Rattle.xc_view.proofs.Fair.{next_is_fair, none_is_fair}
 use Rattle.xc_view.proofs.RowSizes.{is_row_short, cut_rows_are_short}
 

@@ -15,7 +15,7 @@ use Rattle.xc_forms.specs.VariableNames.{is_variable_name, is_value_name}
 use Rattle.xc_expr.specs.Resolving.{both}
 use Rattle.xc_expr.specs.Reading.{guard_in, action_in}
 use Rattle.xc_view_lines.specs.ViewLines.{Statement, View, Lattice, Var, Init, Prop, Command, IsStated}
-use Rattle.xc_view.specs.ViewFiles as files
+use Rattle.xc_view_lines.specs.ViewLines as files
 use Rattle.xc_view_lines.specs.LineReading.{given, view_line, lattice_line, var_line, init_line, prop_line, command_at, command_parts, are_command_words, command_line, word_line, line}
 use Rattle.xc_view_lines.proofs.Expressions.{guards_read, actions_read, no_do}
 

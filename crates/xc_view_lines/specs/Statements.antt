@@ -5,7 +5,7 @@ use Rattle.xc_base.specs.declared.fault.FileFault.{FileFault}
 use Rattle.xc_base.specs.declared.fault.Stop.{Stop}
 use Rattle.xc_base.specs.declared.fault.Stop.TheVariants.{File, Memory}
 use Rattle.xc_expr.specs.Written.{written, set}
-use Rattle.xc_view.specs.ViewFiles as files
+use Rattle.xc_view_lines.specs.ViewLines as files
 use Rattle.xc_view_lines.specs.declared.statement.Statement.{Statement}
 use Rattle.xc_view_lines.specs.declared.statement.Statement.TheVariants.{View, Lattice, Var, Init, Prop, Command}
 

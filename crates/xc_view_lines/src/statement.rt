@@ -4,7 +4,7 @@ use xc_forms::Domain;
 
 /// A statement of a viewpoint file. Guards and actions have the names that the file's text has.
 #[derive(Debug, Drop)]
-pub(crate) enum Statement<'a> {
+pub enum Statement<'a> {
     /// The file is the view of this name.
     View(Word),
     /// Its values are of the lattice in this file.

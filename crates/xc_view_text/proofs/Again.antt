@@ -18,7 +18,7 @@ use Rattle.xc_view.specs.Parts.{is_prop_in, is_command_in, is_named_var, is_soun
 use Rattle.xc_view.specs.Printing.{var_statement, prop_statement, command_statement, statements_in, view_lines}
 use Rattle.xc_view.specs.ViewFiles.{PropValue, CommandValue, ViewValue, vars_of, is_behind_vars, is_init, is_prop, is_command, count_of, line_limit, missing_part, first_name, first_lattice, first_init, props_of, commands_of, test_in, assigns_in, view_of, view_format}
 use Rattle.xc_view_lines.specs.ViewLines.{Statement, View, Lattice, Var, Init, Prop, Command}
-use Rattle.xc_view.specs.ViewFiles as files
+use Rattle.xc_view_lines.specs.ViewLines as files
 use Rattle.xc_view.specs.Writable.{is_writable_prop, is_writable_command, is_writable}
 use Rattle.xc_view.proofs.Fair.{vars_append, names_append, count_append}
 use Rattle.xc_view_text.proofs.Restating.{AreFaultless, are_statements, faultless_join, IsWritten, guard_written, action_written, headed, vars_fine, init_fine, props_fine, commands_fine}

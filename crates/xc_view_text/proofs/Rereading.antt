@@ -17,7 +17,7 @@ use Rattle.xc_view.specs.Parts.{is_sound}
 use Rattle.xc_view.specs.Printing.{spelling, statements_in, view_lines}
 use Rattle.xc_view.specs.ViewFiles.{ViewValue, view_format}
 use Rattle.xc_view_lines.specs.ViewLines.{Statement, IsStated}
-use Rattle.xc_view.specs.ViewFiles.IsStated.{view, lattice, var, init, prop, command}
+use Rattle.xc_view_lines.specs.ViewLines.IsStated.{view, lattice, var, init, prop, command}
 use Rattle.xc_view.specs.Writable.{is_writable}
 use Rattle.xc_view_text.proofs.Again.{all_faultless, reads_again}
 use Rattle.xc_view_text.proofs.Restating.{AreFaultless}

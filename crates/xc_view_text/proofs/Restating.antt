@@ -33,7 +33,7 @@ use Rattle.xc_view.specs.Parts.{is_prop_in, is_command_in, is_named_var}
 use Rattle.xc_view.specs.Printing.{spelling, var_statement, prop_statement, command_statement}
 use Rattle.xc_view.specs.ViewFiles.{PropValue, CommandValue, ViewValue, vars_of, is_behind_vars, is_init, is_prop, is_command, is_command_of, count_of, line_limit, var_excess, line_excess, view_format}
 use Rattle.xc_view_lines.specs.ViewLines.{Statement, View, Lattice, Var, Init, Prop, Command, IsStated}
-use Rattle.xc_view.specs.ViewFiles as files
+use Rattle.xc_view_lines.specs.ViewLines as files
 use Rattle.xc_view.specs.Writable.{is_writable_prop, is_writable_command}
 use Rattle.xc_view.proofs.Fair.{vars_append, names_append, count_append, named_commands, not_same}
 use Rattle.xc_view.proofs.Sizes.{at_least_two, power_below}

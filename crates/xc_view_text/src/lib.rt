@@ -3,4 +3,4 @@
 
 mod print;
 
-
+pub use print::print_view;

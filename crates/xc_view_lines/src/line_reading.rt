@@ -112,7 +112,7 @@ fn find_do(tokens: &[Lexeme]) -> Option<usize>
     tokens.iter().position(|x| b"do".as_slice() == x.text)
 }
 
-#[tactic(auto, using(crate::proofs::Tokens::do_in_texts, crate::proofs::Tokens::front_texts, crate::proofs::Tokens::back_texts), unfolding(xc_view::specs::Deciding::command_parts))]
+#[tactic(auto, using(crate::proofs::Tokens::do_in_texts, crate::proofs::Tokens::front_texts, crate::proofs::Tokens::back_texts), unfolding(crate::specs::LineReading::command_parts))]
 fn command_parts<'a>(
     alloc: Global,
     name: &[u8],
@@ -153,7 +153,7 @@ fn command_line<'a>(alloc: Global, tokens: &[Lexeme<'a>]) -> Result<Option<State
     }
 }
 
-#[tactic(auto, unfolding(xc_view::specs::Deciding::word_line))]
+#[tactic(auto, unfolding(crate::specs::LineReading::word_line))]
 fn word_line<'a>(
     alloc: Global,
     word: &[u8],
@@ -179,8 +179,8 @@ fn word_line<'a>(
 }
 
 /// The statement that a row of these tokens is, where it is one.
-#[tactic(auto, unfolding(xc_view::specs::Deciding::line))]
-pub(crate) fn line<'a>(
+#[tactic(auto, unfolding(crate::specs::LineReading::line))]
+pub fn line<'a>(
     alloc: Global,
     tokens: &[Lexeme<'a>],
 ) -> Result<Option<Statement<'a>>, Memory>

@@ -2,7 +2,7 @@ use Rattle.std.proofs.Common.{sym, ◌∙◌, ap, map}
 use Rattle.std.specs.Option.{option_map}
 use Rattle.xc_expr.specs.Written.{written, set}
 use Rattle.xc_view_lines.proofs.Commands.{command_read, action_lacks}
-use Rattle.xc_view_lines.proofs.line.command_parts.Goals as goal
+use Rattle.xc_view_lines.proofs.line_reading.command_parts.Goals as goal
 
 pub returns : goal.returns
 returns c =
