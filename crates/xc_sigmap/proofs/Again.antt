@@ -11,16 +11,18 @@ use Rattle.xc_base.specs.Names.{has_twice}
 use Rattle.xc_base.specs.Words.{is_name}
 use Rattle.xc_forms.specs.Variables.{names_of, sizes_of, is_domain, state_limit}
 use Rattle.xc_forms.specs.declared.domain.Domain.{Domain}
+use Rattle.xc_forms.specs.VariableLines.{is_named_var}
+use Rattle.xc_forms.proofs.Restating.{are_statements, faultless_join}
 use Rattle.xc_sigmap.specs.declared.parts.Use as viewpoints
 use Rattle.xc_sigmap.specs.declared.parts.Tell as tellings
 use Rattle.xc_sigmap.specs.declared.parts.Stutter as gaps
 use Rattle.xc_sigmap.specs.declared.statement.Statement.{Statement}
 use Rattle.xc_sigmap.specs.declared.statement.Statement.TheVariants.{Map, Use, Var, Prop, Send, Tell, Stutter}
 use Rattle.xc_sigmap.specs.MapFiles.{MapValue, spelling, is_prop_name, is_late, may_follow, uses_of, vars_of, props_of, use_names, sends_of, tells_of, stutters_of, says_again, use_limit, prop_limit, missing_part, first_name, map_of, map_format}
-use Rattle.xc_sigmap.specs.Sound.{has_two, is_named_use, is_named_var, is_send_in, is_tell_in, is_stutter_in, same_send, same_tell, same_stutter, are_declared, are_told, is_sound}
+use Rattle.xc_sigmap.specs.Sound.{has_two, is_named_use, is_send_in, is_tell_in, is_stutter_in, same_send, same_tell, same_stutter, are_declared, are_told, is_sound}
 use Rattle.xc_sigmap.specs.Printing.{sending, telling, stuttering, statements_in, map_lines}
 use Rattle.xc_sigmap.proofs.Fair.{uses_append, vars_append, props_append}
-use Rattle.xc_sigmap.proofs.Restating.{AreFaultless, are_statements, faultless_join, IsBehind, early_again, late_faultless, behind_all, new_by, other_kind}
+use Rattle.xc_sigmap.proofs.Restating.{AreFaultless, IsBehind, early_again, late_faultless, behind_all, new_by, other_kind}
 use Rattle.xc_sigmap.proofs.Declaring.{uses_fine, vars_fine, props_fine}
 use Rattle.xc_sigmap.proofs.Telling.{IsDeclared, send_fine, send_again, sends_back, tell_fine, tell_again, tells_back, stutter_fine, stutter_again, stutters_back}
 use Rattle.xc_sigmap.proofs.ByKind.{due_kind, due_maybe, none_passes, uses_use, uses_var, uses_prop, vars_use, vars_var, vars_prop, props_use, props_var, props_prop, all_uses, all_vars, all_props, all_sends, all_tells, all_stutters}
@@ -232,11 +234,11 @@ module _ (v : MapValue) (sound : is_sound v ≡ true) where
   pub all_faultless : AreFaultless [] (statements_in v)
   all_faultless = (
     head_fine,
-    faultless_join b1 (map Use v.uses) _ k1
-        (faultless_join b2 (map Var v.vars) _ k2
-        (faultless_join b3 (map Prop v.props) _ k3
-        (faultless_join b4 (map (sending v) v.sends) _ k4
-        (faultless_join b5 (map (telling v) v.tells) (map (stuttering v) v.stutters) k5 k6)))),
+    faultless_join map_format spelling b1 (map Use v.uses) _ k1
+        (faultless_join map_format spelling b2 (map Var v.vars) _ k2
+        (faultless_join map_format spelling b3 (map Prop v.props) _ k3
+        (faultless_join map_format spelling b4 (map (sending v) v.sends) _ k4
+        (faultless_join map_format spelling b5 (map (telling v) v.tells) (map (stuttering v) v.stutters) k5 k6)))),
   )
 
   -- no part lacks
@@ -256,7 +258,7 @@ module _ (v : MapValue) (sound : is_sound v ≡ true) where
       let vars = all_vars v in
       record {
         statements = statements_in v;
-        read = are_statements [] (statements_in v) 1 all_faultless;
+        read = are_statements map_format spelling [] (statements_in v) 1 all_faultless;
         whole = none_lacks (statements_in v) (subst (λ (us : List viewpoints.Use). 1 ≤ length us) (sym uses) are_sound.some_use) (subst (λ (ds : List Domain). 1 ≤ length ds) (sym vars) are_sound.some_var);
         says =
             map_says (statements_in v) refl uses vars (all_props v)

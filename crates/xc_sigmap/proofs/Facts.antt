@@ -1,14 +1,13 @@
 -- Map files at small cases whose values are known from outside: a wrong definition does not check here.
-use Rattle.std.proofs.Common.{◌≡◌, ℕ, Bool, true, false, List, [], ◌∷◌, ◌++◌, replicate, Some, None, codes, refl}
+use Rattle.std.proofs.Common.{◌≡◌, ℕ, true, false, List, [], ◌∷◌, replicate, Some, None, codes, refl}
 use Rattle.xc_base.specs.declared.fault.Part.TheVariants as parts
 use Rattle.xc_base.specs.declared.fault.Counted.TheVariants as counted
-use Rattle.xc_forms.specs.declared.domain.Domain.{Domain}
-use Rattle.xc_sigmap.specs.declared.parts.Use as viewpoints
+use Rattle.xc_forms.specs.VariableLines.{var_excess}
 use Rattle.xc_sigmap.specs.declared.parts.Told.TheVariants.{Named, Constant}
 use Rattle.xc_sigmap.specs.declared.statement.Statement.{Statement}
 use Rattle.xc_sigmap.specs.declared.statement.Statement.TheVariants.{Map, Use, Var, Prop, Send, Tell, Stutter}
-use Rattle.xc_sigmap.specs.MapFiles.{MapValue, is_prop_name, spelling, has_names, is_due, is_repeated, is_unknown, excess_of, var_excess, missing_part, map_of}
-use Rattle.xc_sigmap.specs.Printing.{statements_in, map_lines}
+use Rattle.xc_sigmap.specs.MapFiles.{is_prop_name, spelling, has_names, is_due, is_repeated, is_unknown, excess_of, missing_part, map_of}
+use Rattle.xc_sigmap.specs.Printing.{statements_in}
 use Rattle.xc_sigmap.specs.Sound.{is_sound}
 
 abbrev ben : List ℕ

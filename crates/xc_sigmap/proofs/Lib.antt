@@ -1,4 +1,3 @@
-pub mod Sizes
 pub mod Tokens
 pub mod Pairs
 pub mod Finding

@@ -1,13 +1,17 @@
 -- The lines of a canonical text, kind by kind.
 use Rattle.std.proofs.Common.{◌≡◌, ℕ, zero, suc, ◌+◌, ◌<◌, ◌≤◌, true, List, [], ◌∷◌, ◌++◌, map, length, get_or, drop, drop-cons, add-one, codes, refl, sym, ◌∙◌, ap, append_assoc, arith}
 use Rattle.std.specs.List.{list_all}
-use Rattle.std.proofs.lemmas.List.{drop_all, map-append, get_or_default}
+use Rattle.std.proofs.lemmas.List.{drop_all, get_or_default}
 use Rattle.std.proofs.lemmas.List.Sums.{AllPass-from_list_all}
 use Rattle.std.proofs.lemmas.Bool.{and_parts, ltb-true}
 use Rattle.xc_base.specs.Canonical.{canonical}
 use Rattle.xc_base.specs.Names.{name_at}
 use Rattle.xc_forms.specs.Variables.{names_of, values_at}
 use Rattle.xc_forms.specs.declared.domain.Domain.{Domain}
+use Rattle.xc_forms.specs.VariableLines.{var_tokens}
+use Rattle.xc_forms.specs.PrintedLines.{printed}
+use Rattle.xc_forms.specs.PrintedLines as forms
+use Rattle.xc_forms.proofs.PrintedLines.{written_from, written_end, written_before, vars_written}
 use Rattle.xc_sigmap.specs.declared.parts.Use as viewpoints
 use Rattle.xc_sigmap.specs.declared.parts.Carry.{Carry}
 use Rattle.xc_sigmap.specs.declared.parts.SendLine.{SendLine}
@@ -20,46 +24,21 @@ use Rattle.xc_sigmap.specs.Sound.{is_carry_in, is_send_in, is_tell_in, is_stutte
 use Rattle.xc_sigmap.specs.Printing.{use_at, paired, sending, telling, stuttering, map_lines}
 use Rattle.xc_sigmap.specs.Written.{written}
 
--- the text of lines, and of others behind them
-pub canonical-append : (xs ys : List (List (List ℕ))) → canonical (xs ++ ys) ≡ canonical xs ++ canonical ys
-unfolding canonical
-canonical-append [] ys = refl
-canonical-append (x ∷ xs) ys = rw (canonical-append xs ys, append_assoc)
-
--- what the items from a place on are as text
-pub written_from : {X : Type 0} (say : X → Statement) (xs : List X) (i : ℕ) (d : X) → i < length xs → written say (drop i xs) ≡ written say (get_or xs i d ∷ []) ++ written say (drop (i + 1) xs)
-unfolding written
-written_from say xs i d h = rw (add-one, drop-cons xs i d) (canonical-append (spelling (say (get_or xs i d)) ∷ []) (map spelling (map say (drop (suc i) xs))))
-
-pub written_end : {X : Type 0} (say : X → Statement) (xs : List X) (i : ℕ) → length xs ≤ i → written say (drop i xs) ≡ []
-unfolding written canonical
-written_end say xs i h = rw (drop_all i xs h)
-
 -- the same of each kind
 pub uses_from : (uses : List viewpoints.Use) (i : ℕ) (d : viewpoints.Use) → i < length uses → written Use (drop i uses) ≡ written Use (get_or uses i d ∷ []) ++ written Use (drop (i + 1) uses)
-uses_from uses i d h = written_from Use uses i d h
+uses_from uses i d h = written_from spelling Use uses i d h
 
 pub uses_end : (uses : List viewpoints.Use) (i : ℕ) → length uses ≤ i → written Use (drop i uses) ≡ []
-uses_end uses i h = written_end Use uses i h
+uses_end uses i h = written_end spelling Use uses i h
 
-pub vars_from : (vars : List Domain) (i : ℕ) (d : Domain) → i < length vars → written Var (drop i vars) ≡ written Var (get_or vars i d ∷ []) ++ written Var (drop (i + 1) vars)
-vars_from vars i d h = written_from Var vars i d h
-
-pub vars_end : (vars : List Domain) (i : ℕ) → length vars ≤ i → written Var (drop i vars) ≡ []
-vars_end vars i h = written_end Var vars i h
+pub vars_lines : (vars : List Domain) → printed var_tokens vars ≡ written Var vars
+vars_lines vars = vars_written spelling Var vars (λ d. refl)
 
 pub props_from : (props : List (List ℕ)) (i : ℕ) (d : List ℕ) → i < length props → written Prop (drop i props) ≡ written Prop (get_or props i d ∷ []) ++ written Prop (drop (i + 1) props)
-props_from props i d h = written_from Prop props i d h
+props_from props i d h = written_from spelling Prop props i d h
 
 pub props_end : (props : List (List ℕ)) (i : ℕ) → length props ≤ i → written Prop (drop i props) ≡ []
-props_end props i h = written_end Prop props i h
-
--- words from a place on
-pub words_from : (words : List (List ℕ)) (i : ℕ) (d : List ℕ) → i < length words → drop i words ≡ get_or words i d ∷ drop (i + 1) words
-words_from words i d h = rw add-one (drop-cons words i d h)
-
-pub words_end : (words : List (List ℕ)) (i : ℕ) → length words ≤ i → drop i words ≡ []
-words_end words i h = drop_all i words h
+props_end props i h = written_end spelling Prop props i h
 
 -- pairs from a place on
 pub pairs_from : (values : List (List ℕ)) (pairs : List Carry) (i : ℕ) (d : Carry) → i < length pairs → pair_tokens (map (paired values) (drop i pairs)) ≡ pair_tokens (paired values (get_or pairs i d) ∷ []) ++ pair_tokens (map (paired values) (drop (i + 1) pairs))
@@ -89,41 +68,40 @@ pair_here values i d h = get_or_default values i [] d h
 
 -- the lines of a late kind
 pub sends_from : (v : MapValue) (lines : List SendLine) (i : ℕ) (d : SendLine) → i < length lines → written (sending v) (drop i lines) ≡ written (sending v) (get_or lines i d ∷ []) ++ written (sending v) (drop (i + 1) lines)
-sends_from v lines i d h = written_from (sending v) lines i d h
+sends_from v lines i d h = written_from spelling (sending v) lines i d h
 
 pub sends_end : (v : MapValue) (lines : List SendLine) (i : ℕ) → length lines ≤ i → written (sending v) (drop i lines) ≡ []
-sends_end v lines i h = written_end (sending v) lines i h
+sends_end v lines i h = written_end spelling (sending v) lines i h
 
 pub sends_at : (v : MapValue) (lines : List SendLine) (i : ℕ) (d : SendLine) → lines ≡ v.sends → list_all (is_send_in v) v.sends ≡ true → i < length lines → is_send_in v (get_or lines i d) ≡ true
 sends_at v lines i d e h within = AllPass-from_list_all (is_send_in v) lines (ap (list_all (is_send_in v)) e ∙ h) i d within
 
 -- the lines of a late kind
 pub tells_from : (v : MapValue) (lines : List tellings.Tell) (i : ℕ) (d : tellings.Tell) → i < length lines → written (telling v) (drop i lines) ≡ written (telling v) (get_or lines i d ∷ []) ++ written (telling v) (drop (i + 1) lines)
-tells_from v lines i d h = written_from (telling v) lines i d h
+tells_from v lines i d h = written_from spelling (telling v) lines i d h
 
 pub tells_end : (v : MapValue) (lines : List tellings.Tell) (i : ℕ) → length lines ≤ i → written (telling v) (drop i lines) ≡ []
-tells_end v lines i h = written_end (telling v) lines i h
+tells_end v lines i h = written_end spelling (telling v) lines i h
 
 pub tells_at : (v : MapValue) (lines : List tellings.Tell) (i : ℕ) (d : tellings.Tell) → lines ≡ v.tells → list_all (is_tell_in v) v.tells ≡ true → i < length lines → is_tell_in v (get_or lines i d) ≡ true
 tells_at v lines i d e h within = AllPass-from_list_all (is_tell_in v) lines (ap (list_all (is_tell_in v)) e ∙ h) i d within
 
 -- the lines of a late kind
 pub stutters_from : (v : MapValue) (lines : List gaps.Stutter) (i : ℕ) (d : gaps.Stutter) → i < length lines → written (stuttering v) (drop i lines) ≡ written (stuttering v) (get_or lines i d ∷ []) ++ written (stuttering v) (drop (i + 1) lines)
-stutters_from v lines i d h = written_from (stuttering v) lines i d h
+stutters_from v lines i d h = written_from spelling (stuttering v) lines i d h
 
 pub stutters_end : (v : MapValue) (lines : List gaps.Stutter) (i : ℕ) → length lines ≤ i → written (stuttering v) (drop i lines) ≡ []
-stutters_end v lines i h = written_end (stuttering v) lines i h
+stutters_end v lines i h = written_end spelling (stuttering v) lines i h
 
 pub stutters_at : (v : MapValue) (lines : List gaps.Stutter) (i : ℕ) (d : gaps.Stutter) → lines ≡ v.stutters → list_all (is_stutter_in v) v.stutters ≡ true → i < length lines → is_stutter_in v (get_or lines i d) ≡ true
 stutters_at v lines i d e h within = AllPass-from_list_all (is_stutter_in v) lines (ap (list_all (is_stutter_in v)) e ∙ h) i d within
 
 -- the items of one kind, and what stands behind them
 behind : {X : Type 0} (say : X → Statement) (xs : List X) (ss : List Statement) → canonical (map spelling (map say xs ++ ss)) ≡ written say xs ++ canonical (map spelling ss)
-unfolding written
-behind say xs ss = ap canonical (map-append spelling (map say xs) ss) ∙ canonical-append (map spelling (map say xs)) (map spelling ss)
+behind say xs ss = written_before spelling say xs ss
 
 last_kind : {X : Type 0} (say : X → Statement) (xs : List X) → canonical (map spelling (map say xs)) ≡ written say xs
-unfolding written
+unfolding forms.written
 last_kind say xs = refl
 
 -- the whole text
@@ -187,12 +165,12 @@ module _ (v : MapValue) (l : SendLine) (source : Domain) (fit : is_send_in v l �
       ∙ ap (λ (x : List ℕ). codes "send" ∷ use_at v l.viewpoint ∷ l.variable ∷ x ∷ pair_tokens (map (paired (values_at v.vars l.from)) l.pairs)) (sym (var_name v.vars l.from (record { name = []; values = [] }) from_within))
 
 -- the texts one after another
-pub printed : (v : MapValue) (name : List ℕ) (uses : List viewpoints.Use) (vars : List Domain) (props : List (List ℕ)) (t0 t1 t2 t3 t4 t5 t6 t7 : List ℕ)
+pub whole_printed : (v : MapValue) (name : List ℕ) (uses : List viewpoints.Use) (vars : List Domain) (props : List (List ℕ)) (t0 t1 t2 t3 t4 t5 t6 t7 : List ℕ)
     → name ≡ v.name → uses ≡ v.uses → vars ≡ v.vars → props ≡ v.props
     → t0 ≡ [] → t1 ≡ t0 ++ written Map (name ∷ []) → t2 ≡ t1 ++ written Use uses → t3 ≡ t2 ++ written Var vars → t4 ≡ t3 ++ written Prop props
     → t5 ≡ t4 ++ written (sending v) v.sends → t6 ≡ t5 ++ written (telling v) v.tells → t7 ≡ t6 ++ written (stuttering v) v.stutters
     → t7 ≡ canonical (map_lines v)
-printed v name uses vars props t0 t1 t2 t3 t4 t5 t6 t7 n u d p e0 e1 e2 e3 e4 e5 e6 e7 =
+whole_printed v name uses vars props t0 t1 t2 t3 t4 t5 t6 t7 n u d p e0 e1 e2 e3 e4 e5 e6 e7 =
     rw (e7, e6, e5, e4, e3, e2, e1, e0, n, u, d, p) (whole_text v)
 
 -- what a lookup in a lent list gives is there in the map's

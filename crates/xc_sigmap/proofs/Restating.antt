@@ -1,13 +1,12 @@
 -- A statement after others, and lists of statements each of which is faultless after those before it.
-use Rattle.std.proofs.Common.{◌≡◌, ℕ, ◌+◌, Bool, true, false, ◌||◌, not, List, [], ◌∷◌, ◌++◌, map, refl, sym, ◌∙◌, ap, subst, append_assoc}
+use Rattle.std.proofs.Common.{◌≡◌, ℕ, Bool, true, false, ◌||◌, not, List, [], ◌∷◌, ◌++◌, map, refl, sym, ◌∙◌, ap, subst, append_assoc}
 use Rattle.std.specs.List.{list_any, list_all}
 use Rattle.std.proofs.lemmas.Bool.{and_parts, and_from, or_parts, or_from, not-true, not_from_false}
 use Rattle.std.proofs.lemmas.List.{append-nil}
 use Rattle.std.proofs.lemmas.List.Folds.{list_any-append}
-use Rattle.xc_base.specs.Canonical.{numbered}
-use Rattle.xc_base.specs.Formats.{IsFaultless, AreStatements}
-use Rattle.xc_base.specs.Formats.AreStatements.{none, next}
+use Rattle.xc_base.specs.Formats.{IsFaultless}
 use Rattle.xc_forms.specs.declared.domain.Domain.{Domain}
+use Rattle.xc_forms.specs.FaultlessLines as forms
 use Rattle.xc_sigmap.specs.declared.parts.Use as viewpoints
 use Rattle.xc_sigmap.specs.declared.statement.Statement.{Statement}
 use Rattle.xc_sigmap.specs.declared.statement.Statement.TheVariants.{Map, Use, Var, Prop, Send, Tell, Stutter}
@@ -17,21 +16,7 @@ use Rattle.xc_sigmap.proofs.Fair.{last_push, same_uses, same_vars, same_props}
 
 -- each statement is faultless after those before it
 abbrev pub AreFaultless : List Statement → List Statement → Type 0
-AreFaultless before [] = Unit {0}
-AreFaultless before (s ∷ more) = IsFaultless map_format before (spelling s) s × AreFaultless (before ++ s ∷ []) more
-
--- rows of their tokens are these statements
-pub are_statements : (before ss : List Statement) (number : ℕ) → AreFaultless before ss → AreStatements map_format before (numbered number (map spelling ss)) ss
-unfolding numbered
-are_statements before [] number h = none before
-are_statements before (s ∷ more) number h =
-    next before (record { number = number; tokens = spelling s }) (numbered (number + 1) (map spelling more)) s more h.0 (are_statements (before ++ s ∷ []) more (number + 1) h.1)
-
--- one list behind another
-pub faultless_join : (before xs ys : List Statement) → AreFaultless before xs → AreFaultless (before ++ xs) ys → AreFaultless before (xs ++ ys)
-faultless_join before [] ys h k = subst (λ (b : List Statement). AreFaultless b ys) (append-nil before) k
-faultless_join before (x ∷ xs) ys h k =
-    (h.0, faultless_join (before ++ x ∷ []) xs ys h.1 (subst (λ (b : List Statement). AreFaultless b ys) (sym (append_assoc before (x ∷ []) xs)) k))
+AreFaultless before ss = forms.AreFaultless map_format spelling before ss
 
 -- what is due behind statements with one more
 pub due_after : (before : List Statement) (s t : Statement) → is_due (before ++ s ∷ []) t ≡ may_follow s t

@@ -1,5 +1,5 @@
 -- No line of a map's canonical text is too long.
-use Rattle.std.proofs.Common.{◌≡◌, ℕ, zero, suc, ◌+◌, ◌*◌, ◌<◌, ◌≤◌, ◌==◌, Bool, true, false, ◌&&◌, ◌||◌, if◌then◌else◌, nat_lt, nat_le, List, [], ◌∷◌, ◌++◌, map, length, length-append, None, refl, sym, ◌∙◌, ap, subst, arith}
+use Rattle.std.proofs.Common.{◌≡◌, ℕ, zero, suc, ◌*◌, ◌<◌, ◌≤◌, ◌==◌, Bool, true, false, ◌&&◌, ◌||◌, nat_lt, nat_le, List, [], ◌∷◌, ◌++◌, map, length, None, refl, sym, ◌∙◌, ap, subst, arith}
 use Rattle.std.specs.List.{list_any, list_all, IsDistinct, AllByRecursion}
 use Rattle.std.proofs.lemmas.Bool.{and_parts, and_from, or_parts, le-leb, leb-true, ltb-true, not-true, ne_eqb, eq-eqb, eqb-true}
 use Rattle.std.proofs.lemmas.List.{length-map}
@@ -7,12 +7,13 @@ use Rattle.std.proofs.lemmas.List.Folds.{list_all-append}
 use Rattle.std.proofs.lemmas.Map.Steps.{length-le_from_distinct_below}
 use Rattle.std.proofs.Math.Dec.{eqb}
 use Rattle.xc_base.specs.Words.{is_word, is_name, is_file_word}
-use Rattle.xc_base.specs.Canonical.{spaced, canonical, is_short}
+use Rattle.xc_base.specs.Canonical.{canonical, is_short}
 use Rattle.xc_base.specs.Text.{text_fault}
 use Rattle.xc_base.proofs.CanonicalTexts.{canonical_is_sound}
 use Rattle.xc_forms.specs.Variables.{values_at, is_domain}
 use Rattle.xc_forms.specs.VariableNames.{is_variable_name, is_value_name}
 use Rattle.xc_forms.specs.declared.domain.Domain.{Domain}
+use Rattle.xc_forms.proofs.Short.{size, name_size, values_size, short_by}
 use Rattle.xc_sigmap.specs.declared.parts.Carry.{Carry}
 use Rattle.xc_sigmap.specs.declared.parts.SendLine.{SendLine}
 use Rattle.xc_sigmap.specs.declared.parts.Told.TheVariants.{Named, Constant}
@@ -25,37 +26,6 @@ use Rattle.xc_sigmap.specs.Printing.{paired, sending, telling, stuttering, state
 use Rattle.xc_sigmap.proofs.Restating.{AreFaultless}
 use Rattle.xc_sigmap.proofs.Again.{all_faultless, are_sound, told}
 use Rattle.xc_sigmap.proofs.Rereading.{map_is_lines}
-
--- the bytes of tokens, and one more for each
-size : List (List ℕ) → ℕ
-size [] = 0
-size (t ∷ ts) = length t + 1 + size ts
-
-with_gap : (t gap rest : List ℕ) (n : ℕ) → length gap ≤ 1 → length rest ≤ n → length ((t ++ gap) ++ rest) ≤ length t + 1 + n
-with_gap t gap rest n g h = omega (arith, length-append (t ++ gap) rest, length-append t gap)
-
-gap_size : (b : Bool) (t rest : List ℕ) (n : ℕ) → length rest ≤ n → length ((t ++ (if b then 32 ∷ [] else [])) ++ rest) ≤ length t + 1 + n
-gap_size true t rest n h = with_gap t (32 ∷ []) rest n (omega arith) h
-gap_size false t rest n h = with_gap t [] rest n (omega arith) h
-
-spaced_size : (ts : List (List ℕ)) → length (spaced ts) ≤ size ts
-unfolding spaced size
-spaced_size [] = omega arith
-spaced_size (t ∷ []) = omega arith
-spaced_size (t ∷ u ∷ ts) = gap_size (is_word t && is_word u) t (spaced (u ∷ ts)) (size (u ∷ ts)) (spaced_size (u ∷ ts))
-
--- names are short
-name_size : (text : List ℕ) → is_name text ≡ true → length text ≤ 32
-name_size text h = leb-true (length text) 32 (and_parts _ _ (and_parts _ _ h).0).1
-
-values_size : (ws : List (List ℕ)) → list_all is_value_name ws ≡ true → size ws ≤ 33 * length ws
-unfolding size
-values_size [] h = omega arith
-values_size (w ∷ ws) h =
-    let parts = and_parts (is_value_name w) (list_all is_value_name ws) h in
-    let here = name_size w (and_parts (is_name w) _ parts.0).0 in
-    let rest = values_size ws parts.1 in
-    omega arith
 
 pairs_size : (ps : List Pair) → list_all is_named_pair ps ≡ true → size (pair_tokens ps) ≤ 68 * length ps
 unfolding size
@@ -77,9 +47,6 @@ is_small (Prop name) = true
 is_small (Send viewpoint variable source pairs) = nat_le (length pairs) 16
 is_small (Tell viewpoint prop what) = true
 is_small (Stutter viewpoint value) = true
-
-short_by : (ts : List (List ℕ)) → size ts ≤ 4096 → is_short ts ≡ true
-short_by ts h = le-leb (length (spaced ts)) 4096 (omega (arith, spaced_size ts))
 
 small_is_short : (s : Statement) → has_names s ≡ true → is_small s ≡ true → is_short (spelling s) ≡ true
 unfolding size is_small

@@ -16,32 +16,17 @@ use crate::parts::{Carry, SendLine, Stutter, Tell, Told, Use as Declared};
 use crate::sigmap::SigMap;
 use std::alloc::Global;
 use xc_base::{Bytes, Lexeme, List, Memory, Word, push_line};
-use xc_forms::Domain;
-
-fn word<'a>(text: &'a [u8]) -> Lexeme<'a>
-    ensures { result.text.now ≡ text.now }
-{
-    Lexeme { text, word: true }
-}
-
-fn lexeme<'a>(word: &'a Word) -> Lexeme<'a>
-    ensures { result.text.now ≡ word.now }
-{
-    Lexeme {
-        text: word.as_str().as_bytes(),
-        word: true,
-    }
-}
+use xc_forms::{Domain, lexeme, word};
 
 /// Appends the line of a map's name.
-#[tactic(auto, unfolding(crate::specs::Written::written))]
+#[tactic(auto, unfolding(xc_forms::specs::PrintedLines::written))]
 pub(crate) fn push_name(text: &mut Bytes, name: &Word) -> Result<(), Memory>
     ensures { OnOk result (text.new ≡ text.old ++ written Map (name.now ∷ [])) }
 {
     push_line(text, &[word(b"map"), lexeme(name)])
 }
 
-#[tactic(auto, unfolding(crate::specs::Written::written))]
+#[tactic(auto, unfolding(xc_forms::specs::PrintedLines::written))]
 fn push_use(text: &mut Bytes, declared: &Declared) -> Result<(), Memory>
     ensures { OnOk result (text.new ≡ text.old ++ written Use (declared.now ∷ [])) }
 {
@@ -62,39 +47,15 @@ pub(crate) fn push_uses(text: &mut Bytes, uses: &[Declared]) -> Result<(), Memor
     Ok(())
 }
 
-#[tactic(auto, using(crate::proofs::Printing::words_from, crate::proofs::Printing::words_end))]
-fn push_words<'a>(tokens: &mut List<Lexeme<'a>>, words: &'a [Word]) -> Result<(), Memory>
-    ensures { OnOk result (texts tokens.new ≡ texts tokens.old ++ words.now) }
-{
-    for x in words {
-        tokens.push(lexeme(x))?;
-    }
-    Ok(())
-}
-
-#[tactic(auto, unfolding(crate::specs::Written::written))]
-fn push_var(alloc: Global, text: &mut Bytes, domain: &Domain) -> Result<(), Memory>
-    ensures { OnOk result (text.new ≡ text.old ++ written Var (domain.now ∷ [])) }
-{
-    let mut tokens = List::new(alloc);
-    tokens.push(word(b"var"))?;
-    tokens.push(lexeme(&domain.name))?;
-    push_words(&mut tokens, domain.values.as_slice())?;
-    push_line(text, tokens.as_slice())
-}
-
 /// Appends the lines of variables.
-#[tactic(auto, using(std::proofs::lemmas::Grind::common_steps, crate::proofs::Printing::vars_from, crate::proofs::Printing::vars_end))]
+#[tactic(auto, using(crate::proofs::Printing::vars_lines))]
 pub(crate) fn push_vars(alloc: Global, text: &mut Bytes, vars: &[Domain]) -> Result<(), Memory>
     ensures { OnOk result (text.new ≡ text.old ++ written Var vars.now) }
 {
-    for domain in vars {
-        push_var(alloc, text, domain)?;
-    }
-    Ok(())
+    xc_forms::push_vars(alloc, text, vars)
 }
 
-#[tactic(auto, unfolding(crate::specs::Written::written))]
+#[tactic(auto, unfolding(xc_forms::specs::PrintedLines::written))]
 fn push_prop(text: &mut Bytes, name: &Word) -> Result<(), Memory>
     ensures { OnOk result (text.new ≡ text.old ++ written Prop (name.now ∷ [])) }
 {
@@ -194,7 +155,7 @@ fn send_tokens<'a>(
     Ok(tokens)
 }
 
-#[tactic(auto, unfolding(crate::specs::Written::written))]
+#[tactic(auto, unfolding(xc_forms::specs::PrintedLines::written))]
 fn push_send(alloc: Global, text: &mut Bytes, map: &SigMap, line: &SendLine) -> Result<(), Memory>
     requires { is_send_in (value_of map.now) line.now ≡ true }
     ensures { OnOk result (text.new ≡ text.old ++ written (sending (value_of map.now)) (line.now ∷ [])) }
@@ -226,7 +187,7 @@ fn push_told<'a>(tokens: &mut List<Lexeme<'a>>, told: &'a Told) -> Result<(), Me
     }
 }
 
-#[tactic(auto, unfolding(crate::specs::Written::written))]
+#[tactic(auto, unfolding(xc_forms::specs::PrintedLines::written))]
 fn push_tell(alloc: Global, text: &mut Bytes, map: &SigMap, line: &Tell) -> Result<(), Memory>
     requires { is_tell_in (value_of map.now) line.now ≡ true }
     ensures { OnOk result (text.new ≡ text.old ++ written (telling (value_of map.now)) (line.now ∷ [])) }
@@ -250,7 +211,7 @@ pub(crate) fn push_tells(alloc: Global, text: &mut Bytes, map: &SigMap) -> Resul
     Ok(())
 }
 
-#[tactic(auto, unfolding(crate::specs::Written::written))]
+#[tactic(auto, unfolding(xc_forms::specs::PrintedLines::written))]
 fn push_stutter(text: &mut Bytes, map: &SigMap, line: &Stutter) -> Result<(), Memory>
     requires { is_stutter_in (value_of map.now) line.now ≡ true }
     ensures { OnOk result (text.new ≡ text.old ++ written (stuttering (value_of map.now)) (line.now ∷ [])) }
