@@ -4,7 +4,7 @@ use Rattle.xc_base.specs.Canonical.{canonical}
 use Rattle.xc_lattice.specs.LatticeFiles.{Verdict, Faulty, Unlawful, Lawful}
 use Rattle.xc_lattice.specs.Printed.{lattice_lines}
 use Rattle.xc_view.specs.Printing.{view_lines}
-use Rattle.xc_sigmap.specs.Printing.{map_lines}
+use Rattle.xc_sigmap_text.specs.Printing.{map_lines}
 use Rattle.xc_words.specs.declared.asked.ShowKind.{ShowKind}
 use Rattle.xc_words.specs.declared.asked.ShowKind.TheVariants as kinds
 use Rattle.xc_lines.specs.Texts.{fault_line, broken_text}

@@ -3,7 +3,7 @@
 ghost use Rattle.xc_lattice.specs.Printed.{lattice_lines};
 ghost use Rattle.xc_lattice.specs.Values.{value_of as lattice_of};
 ghost use Rattle.xc_sigmap.specs.Maps.{value_of as map_of};
-ghost use Rattle.xc_sigmap.specs.Printing.{map_lines};
+ghost use Rattle.xc_sigmap_text.specs.Printing.{map_lines};
 ghost use Rattle.xc_view.specs.Printing.{view_lines};
 ghost use Rattle.xc_view.specs.Views.{value_of as view_of};
 ghost use Rattle.xc_course.specs.Works.{Works, WorksAlways};
@@ -40,7 +40,7 @@ fn print_view<W: Sink>(alloc: Global, out: &mut W, view: &View) -> Result<Passed
 fn print_map<W: Sink>(alloc: Global, out: &mut W, sigmap: &SigMap) -> Result<Passed, Halt>
     ensures { WorksAlways (Shows (map_lines (map_of sigmap.now))) (W.seen out.old) (W.seen out.new) result }
 {
-    let text = sigmap.print(alloc)?;
+    let text = xc_sigmap_text::print(alloc, sigmap)?;
     serve_text(out, Passed::Done, text.as_slice())
 }
 

@@ -1,5 +1,5 @@
 -- The deciding function gives the statement that is due, where one is.
-use Rattle.std.proofs.Common.{◌≡◌, ℕ, Bool, true, false, ◌&&◌, if◌then◌else◌, List, [], ◌∷◌, Option, Some, None, length, nat_lt, codes, refl, sym, ◌∙◌, subst, ap}
+use Rattle.std.proofs.Common.{◌≡◌, ℕ, Bool, true, false, ◌&&◌, if◌then◌else◌, List, [], ◌∷◌, Option, Some, None, codes, refl, sym, ◌∙◌, subst, ap}
 use Rattle.std.specs.List.{list_all}
 use Rattle.std.specs.Option.{option_map}
 use Rattle.std.specs.Str.{bytes_eq}
@@ -7,7 +7,9 @@ use Rattle.std.proofs.lemmas.Bool.{and_parts, and_from}
 use Rattle.xc_base.proofs.Naming.{same_bytes}
 use Rattle.xc_base.specs.Words.{is_name, is_file_word}
 use Rattle.xc_base.specs.Deciding.{Decides}
-use Rattle.xc_forms.specs.VariableNames.{is_variable_name, is_value_name}
+use Rattle.xc_forms.specs.declared.domain.Domain.{Domain}
+use Rattle.xc_forms.specs.VariableReading as forms
+use Rattle.xc_forms.proofs.VariableReading as declared
 use Rattle.xc_sigmap.specs.declared.parts.Told.{Told}
 use Rattle.xc_sigmap.specs.declared.parts.Told.TheVariants.{Named, Constant}
 use Rattle.xc_sigmap.specs.declared.statement.Pair.{Pair}
@@ -63,10 +65,11 @@ use_sound (name ∷ file ∷ other ∷ more) s h = absurd (none_is_not s h)
 
 -- a variable's line
 var_sound : (tokens : List (List ℕ)) (s : Statement) → var_line tokens ≡ Some s → IsStated (codes "var" ∷ tokens) s
-var_sound [] s h = absurd (none_is_not s h)
-var_sound (name ∷ values) s h =
-    let parts = given_some (is_variable_name name && (nat_lt 0 (length values) && list_all is_value_name values)) (Var (record { name = name; values = values })) s h in
-    subst (IsStated (codes "var" ∷ name ∷ values)) parts.1 (record { spelled = refl; named = parts.0 })
+var_sound tokens s h = by_var (forms.var_line tokens) refl h
+  where
+    by_var : (o : Option Domain) → forms.var_line tokens ≡ o → option_map Var o ≡ Some s → IsStated (codes "var" ∷ tokens) s
+    by_var None e k = absurd (none_is_not s k)
+    by_var (Some d) e k = let parts = declared.var_sound tokens d e in let same : Var d ≡ s = cc in subst (IsStated (codes "var" ∷ tokens)) same (record { spelled = parts.0; named = parts.1 })
 
 -- a proposition's line
 prop_sound : (tokens : List (List ℕ)) (s : Statement) → prop_line tokens ≡ Some s → IsStated (codes "prop" ∷ tokens) s

@@ -1,14 +1,12 @@
 -- Map files at small cases whose values are known from outside: a wrong definition does not check here.
-use Rattle.std.proofs.Common.{◌≡◌, ℕ, Bool, true, false, List, [], ◌∷◌, ◌++◌, replicate, Some, None, codes, refl}
+use Rattle.std.proofs.Common.{◌≡◌, ℕ, true, false, List, [], ◌∷◌, replicate, Some, None, codes, refl}
 use Rattle.xc_base.specs.declared.fault.Part.TheVariants as parts
 use Rattle.xc_base.specs.declared.fault.Counted.TheVariants as counted
-use Rattle.xc_forms.specs.declared.domain.Domain.{Domain}
-use Rattle.xc_sigmap.specs.declared.parts.Use as viewpoints
+use Rattle.xc_forms.specs.VariableLines.{var_excess}
 use Rattle.xc_sigmap.specs.declared.parts.Told.TheVariants.{Named, Constant}
 use Rattle.xc_sigmap.specs.declared.statement.Statement.{Statement}
 use Rattle.xc_sigmap.specs.declared.statement.Statement.TheVariants.{Map, Use, Var, Prop, Send, Tell, Stutter}
-use Rattle.xc_sigmap.specs.MapFiles.{MapValue, is_prop_name, spelling, has_names, is_due, is_repeated, is_unknown, excess_of, var_excess, missing_part, map_of}
-use Rattle.xc_sigmap.specs.Printing.{statements_in, map_lines}
+use Rattle.xc_sigmap.specs.MapFiles.{is_prop_name, spelling, has_names, is_due, is_repeated, is_unknown, excess_of, missing_part, map_of}
 use Rattle.xc_sigmap.specs.Sound.{is_sound}
 
 abbrev ben : List ℕ
@@ -33,7 +31,7 @@ abbrev open_ : List ℕ
 open_ = codes "open"
 
 -- a door that is shut or open, two viewpoints and one proposition; ben's gate is closed where the door is shut
-abbrev house : List Statement
+abbrev pub house : List Statement
 house =
     Map (codes "house") ∷ Use (record { name = ben; file = codes "ben.view" }) ∷ Use (record { name = cat; file = codes "cat.view" }) ∷ Var (record { name = door; values = shut ∷ open_ ∷ [] }) ∷ Prop safe
     ∷ Send ben gate door (record { from = shut; to = codes "closed" } ∷ []) ∷ Tell cat safe (Constant (codes "T")) ∷ Stutter cat (codes "T") ∷ []
@@ -71,7 +69,7 @@ limits = (refl, refl, refl, refl, refl)
 pub lacking : (missing_part [] ≡ Some parts.Head) × (missing_part (Map ben ∷ []) ≡ Some parts.Uses) × (missing_part (Map ben ∷ Use (record { name = ben; file = ben }) ∷ []) ≡ Some parts.Var) × (missing_part house ≡ None)
 lacking = (refl, refl, refl, refl)
 
--- what the house says, by places; and the statements of its canonical text are its own
+-- what the house says, by places
 pub said : ((map_of house).sends ≡ record { viewpoint = 0; variable = gate; from = 0; pairs = record { value = 0; word = codes "closed" } ∷ [] } ∷ []) × ((map_of house).tells ≡ record { viewpoint = 1; prop = 0; told = Constant (codes "T") } ∷ [])
-    × ((map_of house).stutters ≡ record { viewpoint = 1; value = codes "T" } ∷ []) × (statements_in (map_of house) ≡ house) × (is_sound (map_of house) ≡ true)
-said = (refl, refl, refl, refl, refl)
+    × ((map_of house).stutters ≡ record { viewpoint = 1; value = codes "T" } ∷ []) × (is_sound (map_of house) ≡ true)
+said = (refl, refl, refl, refl)

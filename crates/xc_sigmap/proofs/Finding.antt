@@ -23,10 +23,6 @@ position_or_len-map p f (x ∷ xs) = ap (λ (n : ℕ). cond (not (p (f x))) (1 +
 pub use_position : (uses : List Use) (name : List ℕ) → position (bytes_eq name) (use_names uses) ≡ position (λ (u : Use). bytes_eq name u.name) uses
 use_position uses name = rw (position_or_len-map (bytes_eq name) (λ (u : Use). u.name) uses, length-map)
 
--- likewise for variables
-pub var_position : (vars : List Domain) (name : List ℕ) → position (bytes_eq name) (names_of vars) ≡ position (λ (d : Domain). bytes_eq name d.name) vars
-var_position vars name = rw (position_or_len-map (bytes_eq name) (λ (d : Domain). d.name) vars, length-map)
-
 -- what a search by a test finds
 found : (m n k : ℕ) (b : Bool) → nat_lt m n ≡ b → cond b (Some m) None ≡ Some k → (m ≡ k) × (m < n)
 found m n k true e h = let same : m ≡ k = cc in (same, ltb-true m n e)

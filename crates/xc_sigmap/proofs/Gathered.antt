@@ -1,19 +1,18 @@
 -- The parts that are gathered from a draft are those of its map.
 use Rattle.std.proofs.Common.{◌≡◌, ℕ, ◌≤◌, true, List, [], ◌∷◌, length, get_or, None, sym, ◌∙◌, ap, subst, arith}
-use Rattle.std.specs.List.{list_all}
 use Rattle.xc_sigmap.specs.declared.draft.Draft.{Draft}
 use Rattle.xc_sigmap.specs.declared.names.Names.{Names}
 use Rattle.xc_sigmap.specs.declared.parts.SendLine.{SendLine}
 use Rattle.xc_sigmap.specs.declared.parts.Tell.{Tell}
 use Rattle.xc_sigmap.specs.declared.parts.Stutter.{Stutter}
 use Rattle.xc_sigmap.specs.declared.statement.Statement.{Statement}
-use Rattle.xc_sigmap.specs.MapFiles.{MapValue, is_map, vars_of, first_name, sends_of, tells_of, stutters_of, missing_part, map_of}
+use Rattle.xc_sigmap.specs.MapFiles.{MapValue, vars_of, first_name, sends_of, tells_of, stutters_of, missing_part, map_of}
 use Rattle.xc_sigmap.specs.Sound.{is_sound}
 use Rattle.xc_sigmap.specs.Drafts.{begins}
-use Rattle.xc_sigmap.specs.Drafted.{named_in, is_known, AreFew}
-use Rattle.xc_sigmap.proofs.Sizes.{fit_from_sized}
+use Rattle.xc_sigmap.specs.Drafted.{named_in, AreFew}
+use Rattle.xc_forms.proofs.Sizes.{fit_from_sized}
 use Rattle.xc_sigmap.proofs.Sound.{one_there, var_there, map_is_sound}
-use Rattle.xc_sigmap.proofs.Gathering.{first_is_map, first_says}
+use Rattle.xc_sigmap.proofs.Gathering.{first_says}
 
 abbrev pub map_parts : Names → List ℕ → List SendLine → List Tell → List Stutter → MapValue
 map_parts names name sends tells stutters = record { name = name; uses = names.uses; vars = names.vars; props = names.props; sends = sends; tells = tells; stutters = stutters }

@@ -1,4 +1,3 @@
-pub mod Sizes
 pub mod Tokens
 pub mod Pairs
 pub mod Finding
@@ -12,11 +11,3 @@ pub mod Sound
 pub mod Gathered
 pub mod Verdicts
 pub mod Keeping
-pub mod Printing
-pub mod Restating
-pub mod Declaring
-pub mod Telling
-pub mod ByKind
-pub mod Again
-pub mod Rereading
-pub mod Short

@@ -1,9 +1,6 @@
 -- Tokens and their texts.
-use Rattle.std.proofs.Common.{◌≡◌, ℕ, ◌-◌, ◌<◌, true, List, length, get_or, nat_lt, take, drop, sym, ◌∙◌, ap, arith, length-drop}
-use Rattle.std.specs.List.{list_all}
-use Rattle.std.proofs.lemmas.List.{length-map, take_all, drop-map}
-use Rattle.std.proofs.lemmas.List.Sums.{AllPass-from_list_all}
-use Rattle.std.proofs.lemmas.List.Folds.{list_all-map}
+use Rattle.std.proofs.Common.{◌≡◌, ℕ, ◌-◌, true, List, length, take, drop, sym, ◌∙◌, ap, arith, length-drop}
+use Rattle.std.proofs.lemmas.List.{take_all, drop-map}
 use Rattle.std.proofs.lemmas.Bool.{and_parts}
 use Rattle.xc_base.specs.Words.{is_name, is_word}
 use Rattle.xc_base.specs.declared.lines.Lexeme.{Lexeme}
@@ -17,19 +14,6 @@ name_is_word text h = (and_parts _ _ (and_parts _ _ h).0).0
 -- so are those of values
 pub value_is_word : (text : List ℕ) → is_value_name text ≡ true → is_word text ≡ true
 value_is_word text h = name_is_word text (and_parts _ _ h).0
-
--- tokens that are all names of values are words
-pub values_are_words : (tokens : List Lexeme) (i : ℕ) (d : Lexeme) → list_all is_value_name (texts tokens) ≡ true → i < length tokens → is_word (get_or tokens i d).text.now ≡ true
-values_are_words tokens i d h within =
-    value_is_word (get_or tokens i d).text.now (AllPass-from_list_all (λ x. is_value_name x.text.now) tokens (rw list_all-map at h) i d within)
-
--- a test of the texts of tokens
-pub all_texts : (tokens : List Lexeme) → list_all is_value_name (texts tokens) ≡ list_all (λ x. is_value_name x.text.now) tokens
-all_texts tokens = list_all-map is_value_name (λ x. x.text.now) tokens
-
--- there are texts where there are tokens
-pub some_texts : (tokens : List Lexeme) → nat_lt 0 (length (texts tokens)) ≡ nat_lt 0 (length tokens)
-some_texts tokens = rw length-map
 
 -- the texts from a place on
 pub back_texts : (tokens : List Lexeme) (place : ℕ) → texts (take (length tokens - place) (drop place tokens)) ≡ drop place (texts tokens)

@@ -1,11 +1,10 @@
 -- Which statement of a map file a row is.
 -- Words for the steps of the code: public clauses do not rest on them.
-use Rattle.std.specs.Prelude.{ℕ, Bool, ◌&&◌, nat_lt, if◌then◌else◌, List, [], ◌∷◌, length, Option, Some, None, codes}
-use Rattle.std.specs.List.{list_all}
+use Rattle.std.specs.Prelude.{ℕ, Bool, ◌&&◌, if◌then◌else◌, List, [], ◌∷◌, Option, Some, None, codes}
 use Rattle.std.specs.Option.{option_map}
 use Rattle.std.specs.Str.{bytes_eq}
 use Rattle.xc_base.specs.Words.{is_name, is_file_word}
-use Rattle.xc_forms.specs.VariableNames.{is_variable_name, is_value_name}
+use Rattle.xc_forms.specs.VariableReading as forms
 use Rattle.xc_sigmap.specs.declared.parts.Told.{Told}
 use Rattle.xc_sigmap.specs.declared.parts.Told.TheVariants.{Named, Constant}
 use Rattle.xc_sigmap.specs.declared.statement.Pair.{Pair}
@@ -29,8 +28,7 @@ use_line _ = None
 
 -- a variable's name, and one value or more
 abbrev pub var_line : List (List ℕ) → Option Statement
-var_line (name ∷ values) = given (is_variable_name name && (nat_lt 0 (length values) && list_all is_value_name values)) (Var (record { name = name; values = values }))
-var_line [] = None
+var_line tokens = option_map Var (forms.var_line tokens)
 
 -- a proposition
 abbrev pub prop_line : List (List ℕ) → Option Statement

@@ -2,13 +2,13 @@
 -- Words for the steps of the code: public clauses do not rest on them.
 use Rattle.std.specs.Prelude.{◌≡◌, ◌≤◌, ℕ, Bool, true, false, ◌&&◌, not, List, [], ◌∷◌, length, Result, Ok, Err}
 use Rattle.std.specs.List.{list_any, list_all}
-use Rattle.xc_theory.specs.Codes.{total}
 use Rattle.xc_base.specs.Names.{is_among, has_twice}
 use Rattle.xc_base.specs.declared.fault.FileFault.{FileFault}
 use Rattle.xc_base.specs.declared.fault.Stop.{Stop}
 use Rattle.xc_base.specs.declared.fault.Stop.TheVariants.{File, Memory}
-use Rattle.xc_forms.specs.Variables.{names_of, sizes_of, is_domain, state_limit}
+use Rattle.xc_forms.specs.Variables.{names_of}
 use Rattle.xc_forms.specs.declared.domain.Domain.{Domain}
+use Rattle.xc_forms.specs.FaultlessLines.{AreSized}
 use Rattle.xc_sigmap.specs.declared.parts.Use as viewpoints
 use Rattle.xc_sigmap.specs.declared.statement.Statement.{Statement}
 use Rattle.xc_sigmap.specs.declared.statement.Statement.TheVariants.{Map, Use, Var, Prop, Send, Tell, Stutter}
@@ -24,12 +24,6 @@ begins (s ∷ more) = is_map s
 abbrev pub ends_late : List Statement → Bool
 ends_late [] = false
 ends_late (s ∷ more) = is_late (last_of s more)
-
--- no variables, or fit ones: different names, each with 2 to 16 different values, and not too many states
-pub record AreSized (vars : List Domain) : Type 0 where
-  pub different : has_twice (names_of vars) ≡ false
-  pub domains : list_all is_domain vars ≡ true
-  pub states : total (sizes_of vars) ≤ state_limit
 
 -- what a statement names is there
 abbrev pub is_known : List viewpoints.Use → List Domain → List (List ℕ) → Statement → Bool

@@ -6,5 +6,3 @@ pub mod Laws
 pub mod Drafts
 pub mod Drafted
 pub mod Kept
-pub mod Printing
-pub mod Written

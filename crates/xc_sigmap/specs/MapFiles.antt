@@ -1,17 +1,16 @@
 -- Map files: their statements, and what they say.
-use Rattle.std.specs.Prelude.{◌≡◌, ℕ, ◌+◌, Bool, true, false, ◌&&◌, ◌||◌, not, nat_lt, nat_le, if◌then◌else◌, List, [], ◌∷◌, ◌++◌, length, map, Option, Some, None, codes}
-use Rattle.std.specs.List.{list_any, list_all}
+use Rattle.std.specs.Prelude.{◌≡◌, ℕ, ◌+◌, Bool, true, false, ◌&&◌, ◌||◌, not, nat_lt, if◌then◌else◌, List, [], ◌∷◌, length, map, Option, Some, None, codes}
+use Rattle.std.specs.List.{list_any, list_all, filter_map}
 use Rattle.std.specs.Str.{bytes_eq}
-use Rattle.xc_theory.specs.Codes.{total}
 use Rattle.xc_base.specs.Words.{is_name, is_file_word}
 use Rattle.xc_base.specs.Names.{is_among, has_twice, place_of}
 use Rattle.xc_base.specs.Formats.{Format, Excess}
 use Rattle.xc_base.specs.declared.fault.Part.{Part}
 use Rattle.xc_base.specs.declared.fault.Part.TheVariants as parts
 use Rattle.xc_base.specs.declared.fault.Counted.TheVariants as counted
-use Rattle.xc_forms.specs.Variables.{names_of, sizes_of, values_at, state_limit}
-use Rattle.xc_forms.specs.VariableNames.{is_variable_name, is_value_name}
+use Rattle.xc_forms.specs.Variables.{names_of, sizes_of, values_at}
 use Rattle.xc_forms.specs.declared.domain.Domain.{Domain}
+use Rattle.xc_forms.specs.VariableLines.{var_tokens, is_var_line, is_var_again, var_excess, line_excess}
 use Rattle.xc_sigmap.specs.declared.parts.Use as viewpoints
 use Rattle.xc_sigmap.specs.declared.parts.Carry.{Carry}
 use Rattle.xc_sigmap.specs.declared.parts.SendLine.{SendLine}
@@ -45,7 +44,7 @@ told_tokens (Constant value) = codes "as" ∷ value ∷ []
 abbrev pub spelling : Statement → List (List ℕ)
 spelling (Map name) = codes "map" ∷ name ∷ []
 spelling (Use u) = codes "use" ∷ u.name ∷ u.file ∷ []
-spelling (Var d) = codes "var" ∷ d.name ∷ d.values
+spelling (Var d) = var_tokens d
 spelling (Prop name) = codes "prop" ∷ name ∷ []
 spelling (Send viewpoint variable source pairs) = codes "send" ∷ viewpoint ∷ variable ∷ source ∷ pair_tokens pairs
 spelling (Tell viewpoint prop told) = codes "tell" ∷ viewpoint ∷ prop ∷ told_tokens told
@@ -62,7 +61,7 @@ told_word (Constant value) = value
 abbrev pub has_names : Statement → Bool
 has_names (Map name) = is_name name
 has_names (Use u) = is_name u.name && is_file_word u.file
-has_names (Var d) = is_variable_name d.name && (nat_lt 0 (length d.values) && list_all is_value_name d.values)
+has_names (Var d) = is_var_line d
 has_names (Prop name) = is_prop_name name
 has_names (Send viewpoint variable source pairs) = is_name viewpoint && is_name variable && is_name source && list_all is_named_pair pairs
 has_names (Tell viewpoint prop told) = is_name viewpoint && is_name prop && is_name (told_word told)
@@ -121,35 +120,26 @@ pub record IsDue (before : List Statement) (tokens : List (List ℕ)) (s : State
   pub placed : is_due before s ≡ true
 
 -- the viewpoints, the variables and the propositions of the statements, in order
+abbrev pub use_in : Statement → Option viewpoints.Use
+use_in (Use u) = Some u
+use_in _ = None
+
+abbrev pub var_in : Statement → Option Domain
+var_in (Var d) = Some d
+var_in _ = None
+
+abbrev pub prop_in : Statement → Option (List ℕ)
+prop_in (Prop name) = Some name
+prop_in _ = None
+
 abbrev pub uses_of : List Statement → List viewpoints.Use
-uses_of [] = []
-uses_of (Use u ∷ more) = u ∷ uses_of more
-uses_of (Map name ∷ more) = uses_of more
-uses_of (Var d ∷ more) = uses_of more
-uses_of (Prop name ∷ more) = uses_of more
-uses_of (Send viewpoint variable source pairs ∷ more) = uses_of more
-uses_of (Tell viewpoint prop told ∷ more) = uses_of more
-uses_of (Stutter viewpoint value ∷ more) = uses_of more
+uses_of statements = filter_map use_in statements
 
 abbrev pub vars_of : List Statement → List Domain
-vars_of [] = []
-vars_of (Var d ∷ more) = d ∷ vars_of more
-vars_of (Map name ∷ more) = vars_of more
-vars_of (Use u ∷ more) = vars_of more
-vars_of (Prop name ∷ more) = vars_of more
-vars_of (Send viewpoint variable source pairs ∷ more) = vars_of more
-vars_of (Tell viewpoint prop told ∷ more) = vars_of more
-vars_of (Stutter viewpoint value ∷ more) = vars_of more
+vars_of statements = filter_map var_in statements
 
 abbrev pub props_of : List Statement → List (List ℕ)
-props_of [] = []
-props_of (Prop name ∷ more) = name ∷ props_of more
-props_of (Map name ∷ more) = props_of more
-props_of (Use u ∷ more) = props_of more
-props_of (Var d ∷ more) = props_of more
-props_of (Send viewpoint variable source pairs ∷ more) = props_of more
-props_of (Tell viewpoint prop told ∷ more) = props_of more
-props_of (Stutter viewpoint value ∷ more) = props_of more
+props_of statements = filter_map prop_in statements
 
 abbrev pub use_names : List viewpoints.Use → List (List ℕ)
 use_names uses = map (λ (u : viewpoints.Use). u.name) uses
@@ -170,7 +160,7 @@ says_again _ _ = false
 abbrev pub is_repeated : List Statement → Statement → Bool
 is_repeated before (Map name) = false
 is_repeated before (Use u) = is_among (use_names (uses_of before)) u.name
-is_repeated before (Var d) = is_among (names_of (vars_of before)) d.name || has_twice d.values
+is_repeated before (Var d) = is_var_again (vars_of before) d
 is_repeated before (Prop name) = is_among (props_of before) name
 is_repeated before (Send viewpoint variable source pairs) = list_any (says_again (Send viewpoint variable source pairs)) before || has_twice (carried_names pairs)
 is_repeated before (Tell viewpoint prop told) = list_any (says_again (Tell viewpoint prop told)) before
@@ -204,16 +194,6 @@ use_limit = 8
 
 abbrev pub prop_limit : ℕ
 prop_limit = 256
-
--- fewer than 2 values or more than 16; else too many states by the variables so far and this one
-abbrev pub var_excess : List ℕ → ℕ → Option Excess
-var_excess sizes size =
-    if not (nat_le 2 size && nat_le size 16) then Some (record { what = counted.Values; found = size }) else
-    if nat_lt state_limit (total (sizes ++ size ∷ [])) then Some (record { what = counted.States; found = total (sizes ++ size ∷ []) }) else None
-
--- too many, where so many may be and so many are there before it
-abbrev pub line_excess : ℕ → ℕ → Excess → Option Excess
-line_excess limit count excess = if nat_lt count limit then None else Some excess
 
 abbrev pub excess_of : List Statement → Statement → Option Excess
 excess_of before (Map name) = None

@@ -5,8 +5,7 @@ use Rattle.std.specs.Str.{bytes_eq}
 use Rattle.xc_base.specs.Names.{has_twice}
 use Rattle.xc_base.specs.Words.{is_name, is_file_word}
 use Rattle.xc_forms.specs.Variables.{values_at, are_fit}
-use Rattle.xc_forms.specs.VariableNames.{is_variable_name, is_value_name}
-use Rattle.xc_forms.specs.declared.domain.Domain.{Domain}
+use Rattle.xc_forms.specs.VariableLines.{is_named_var}
 use Rattle.xc_sigmap.specs.declared.parts.Use.{Use}
 use Rattle.xc_sigmap.specs.declared.parts.Carry.{Carry}
 use Rattle.xc_sigmap.specs.declared.parts.SendLine.{SendLine}
@@ -19,12 +18,9 @@ abbrev pub has_two : {X : Type 0} → (X → X → Bool) → List X → Bool
 has_two again [] = false
 has_two again (x ∷ more) = list_any (λ y. again y x) more || has_two again more
 
--- a viewpoint and a variable have words of their kinds
+-- a viewpoint has words of their kinds
 abbrev pub is_named_use : Use → Bool
 is_named_use u = is_name u.name && is_file_word u.file
-
-abbrev pub is_named_var : Domain → Bool
-is_named_var d = is_variable_name d.name && list_all is_value_name d.values
 
 -- two pairs of the same value, two lines for a viewpoint's variable, two for what a viewpoint tells of a proposition, two stutter
 -- values of a viewpoint

@@ -1,7 +1,5 @@
 ghost use Rattle.std.specs.Prelude.{◌≡◌, ◌&&◌, true, length, nat_lt, IfOk};
-ghost use Rattle.std.specs.List.{list_all};
 ghost use Rattle.xc_base.specs.Lines.{texts};
-ghost use Rattle.xc_forms.specs.VariableNames.{is_value_name as is_value_text};
 ghost use Rattle.xc_sigmap.specs.Deciding.{map_line, use_line, var_line, prop_line};
 ghost use Rattle.xc_sigmap.specs.Deciding.{first_pair, pairs_in, send_parts, send_line, named_told, constant_told, told_in, tell_line, stutter_line, word_line, line};
 
@@ -10,7 +8,7 @@ use crate::statement::{Pair, Statement};
 use crate::words::is_prop_name;
 use std::alloc::Global;
 use xc_base::{Lexeme, List, Memory, Word, is_name_text, is_word_text};
-use xc_forms::{Domain, is_value_name, is_variable_name};
+use xc_forms::var_line;
 
 fn map_line(alloc: Global, tokens: &[Lexeme]) -> Result<Option<Statement>, Memory>
     ensures { IfOk result (λ s. s ≡ map_line (texts tokens.now)) }
@@ -38,41 +36,12 @@ fn use_line(alloc: Global, tokens: &[Lexeme]) -> Result<Option<Statement>, Memor
     }
 }
 
-fn all_value_names(tokens: &[Lexeme]) -> bool
-    ensures { result ≡ list_all (λ x. is_value_text x.text.now) tokens.now }
-{
-    tokens.iter().all(|x| is_value_name(x.text))
-}
-
-#[tactic(auto, using(crate::proofs::Tokens::all_texts, crate::proofs::Tokens::some_texts))]
-fn are_value_names(tokens: &[Lexeme]) -> bool
-    ensures { result ≡ (nat_lt 0 (length (texts tokens.now)) && list_all is_value_text (texts tokens.now)) }
-{
-    !tokens.is_empty() && all_value_names(tokens)
-}
-
-#[tactic(auto, using(crate::proofs::Tokens::values_are_words))]
-fn words_of(alloc: Global, tokens: &[Lexeme]) -> Result<List<Word>, Memory>
-    requires { list_all is_value_text (texts tokens.now) ≡ true }
-    ensures { IfOk result (λ words. words ≡ texts tokens.now) }
-{
-    let mut words = List::new(alloc);
-    for x in tokens {
-        words.push(Word::of(alloc, x.text)?)?;
-    }
-    Ok(words)
-}
-
-fn var_line(alloc: Global, tokens: &[Lexeme]) -> Result<Option<Statement>, Memory>
+fn declared_line(alloc: Global, tokens: &[Lexeme]) -> Result<Option<Statement>, Memory>
     ensures { IfOk result (λ s. s ≡ var_line (texts tokens.now)) }
 {
-    match tokens {
-        [name, values @ ..] if is_variable_name(name.text) && are_value_names(values) => {
-            let name = Word::of(alloc, name.text)?;
-            let values = words_of(alloc, values)?;
-            Ok(Some(Statement::Var(Domain { name, values })))
-        }
-        _ => Ok(None),
+    match var_line(alloc, tokens)? {
+        Some(domain) => Ok(Some(Statement::Var(domain))),
+        None => Ok(None),
     }
 }
 
@@ -225,7 +194,7 @@ fn word_line(alloc: Global, word: &[u8], tokens: &[Lexeme]) -> Result<Option<Sta
     } else if word == b"use".as_slice() {
         use_line(alloc, tokens)
     } else if word == b"var".as_slice() {
-        var_line(alloc, tokens)
+        declared_line(alloc, tokens)
     } else if word == b"prop".as_slice() {
         prop_line(alloc, tokens)
     } else if word == b"send".as_slice() {

@@ -7,14 +7,14 @@ ghost use Rattle.xc_sigmap.specs.Maps.{value_of};
 ghost use Rattle.xc_sigmap.specs.Drafted.{is_known, AreFew};
 
 use crate::draft::Draft;
-use crate::lookup::{find_use, find_var};
+use crate::lookup::find_use;
 use crate::names::Names;
 use crate::parts::{Carry, SendLine, Stutter, Tell, Told, Use};
 use crate::sigmap::SigMap;
 use crate::statement::{Pair, Statement};
 use std::alloc::Global;
 use xc_base::{List, Memory, Word, find_name};
-use xc_forms::Domain;
+use xc_forms::{Domain, find_var};
 
 fn map_name(alloc: Global, s: &Statement) -> Result<Word, Memory>
     requires { is_map s.now ≡ true }

@@ -8,11 +8,12 @@ ghost use Rattle.xc_sigmap.specs.MapFiles.{use_names, carried_names, values_name
 
 use crate::draft::Draft;
 use crate::limits::limit_fault;
-use crate::lookup::{find_use, find_var};
+use crate::lookup::find_use;
+use crate::names::Names;
 use crate::parts::Use;
 use crate::statement::{Pair, Statement};
-use xc_base::{FileFault, Word, has_twice, is_among};
-use xc_forms::Domain;
+use xc_base::{FileFault, Word, is_among};
+use xc_forms::{Domain, find_var, is_var_again};
 
 /// Whether there is a viewpoint of the name.
 #[tactic(auto, using(crate::proofs::Finding::found_is_among, crate::proofs::Finding::none_is_among))]
@@ -20,14 +21,6 @@ fn has_use(uses: &[Use], name: &Word) -> bool
     ensures { result ≡ is_among (use_names uses.now) name.now }
 {
     find_use(uses, name).is_some()
-}
-
-/// Whether there is a variable of the name.
-#[tactic(auto, using(crate::proofs::Finding::found_is_among, crate::proofs::Finding::none_is_among))]
-fn has_var(vars: &[Domain], name: &Word) -> bool
-    ensures { result ≡ is_among (names_of vars.now) name.now }
-{
-    find_var(vars, name).is_some()
 }
 
 fn is_same(left: &Word, right: &Word) -> bool
@@ -86,9 +79,7 @@ fn is_repeated(draft: &Draft, s: &Statement) -> bool
     match s {
         Statement::Map(_) => false,
         Statement::Use(declared) => has_use(names.uses.as_slice(), &declared.name),
-        Statement::Var(domain) => {
-            has_var(names.vars.as_slice(), &domain.name) || has_twice(domain.values.as_slice())
-        }
+        Statement::Var(domain) => is_var_again(names.vars.as_slice(), domain),
         Statement::Prop(name) => is_among(names.props.as_slice(), name.as_str().as_bytes()),
         Statement::Send(_, _, _, pairs) => is_said(before, s) || carries_twice(pairs.as_slice()),
         Statement::Tell(..) | Statement::Stutter(..) => is_said(before, s),
@@ -114,6 +105,13 @@ fn has_source(vars: &[Domain], source: &Word, pairs: &[Pair]) -> bool
     }
 }
 
+/// Whether there is a viewpoint of the name, and a variable with the values that the pairs carry.
+fn can_send(names: &Names, viewpoint: &Word, source: &Word, pairs: &[Pair]) -> bool
+    ensures { result ≡ (is_among (use_names names.now.uses) viewpoint.now && (is_among (names_of names.now.vars) source.now && list_all (is_among (values_named names.now.vars source.now)) (carried_names pairs.now))) }
+{
+    has_use(names.uses.as_slice(), viewpoint) && has_source(names.vars.as_slice(), source, pairs)
+}
+
 fn is_unknown(draft: &Draft, s: &Statement) -> bool
     ensures { result ≡ is_unknown draft.now.statements s.now }
 {
@@ -121,8 +119,7 @@ fn is_unknown(draft: &Draft, s: &Statement) -> bool
     let uses = names.uses.as_slice();
     match s {
         Statement::Send(viewpoint, _, source, pairs) => {
-            !(has_use(uses, viewpoint)
-                && has_source(names.vars.as_slice(), source, pairs.as_slice()))
+            !can_send(names, viewpoint, source, pairs.as_slice())
         }
         Statement::Tell(viewpoint, prop, _) => {
             !(has_use(uses, viewpoint)

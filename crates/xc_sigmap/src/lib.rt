@@ -10,7 +10,6 @@ mod limits;
 mod lookup;
 mod names;
 mod parts;
-mod print;
 mod reader;
 mod rows;
 mod sigmap;

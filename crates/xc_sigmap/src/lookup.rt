@@ -3,12 +3,10 @@
 ghost use Rattle.std.specs.Prelude.{◌≡◌, ◌<◌, IfSome, length};
 ghost use Rattle.std.specs.List.{position, list_any};
 ghost use Rattle.std.specs.Str.{bytes_eq};
-ghost use Rattle.xc_forms.specs.Variables.{names_of};
 ghost use Rattle.xc_sigmap.specs.MapFiles.{use_names};
 
 use crate::parts::Use;
 use xc_base::Word;
-use xc_forms::Domain;
 
 fn is_use_of(declared: &Use, name: &Word) -> bool
     ensures { result ≡ bytes_eq name.now declared.now.name }
@@ -28,24 +26,4 @@ pub(crate) fn find_use(uses: &[Use], name: &Word) -> Option<usize>
     ensures { result ≡ position (bytes_eq name.now) (use_names uses.now) }
 {
     use_place(uses, name)
-}
-
-fn is_var_of(domain: &Domain, name: &Word) -> bool
-    ensures { result ≡ bytes_eq name.now domain.now.name }
-{
-    name.as_str() == domain.name.as_str()
-}
-
-fn var_place(vars: &[Domain], name: &Word) -> Option<usize>
-    ensures { result ≡ position (λ d. bytes_eq name.now d.name) vars.now }
-{
-    vars.iter().position(|domain| is_var_of(domain, name))
-}
-
-/// The place of the variable of a name.
-#[tactic(auto, using(crate::proofs::Finding::var_position))]
-pub(crate) fn find_var(vars: &[Domain], name: &Word) -> Option<usize>
-    ensures { result ≡ position (bytes_eq name.now) (names_of vars.now) }
-{
-    var_place(vars, name)
 }

@@ -12,7 +12,7 @@ use Rattle.xc_view.specs.ViewFiles.{ViewValue, view_format}
 use Rattle.xc_sigmap.specs.MapFiles.{MapValue, map_format}
 use Rattle.xc_lattice.specs.Printed.{lattice_lines}
 use Rattle.xc_view.specs.Printing.{view_lines}
-use Rattle.xc_sigmap.specs.Printing.{map_lines}
+use Rattle.xc_sigmap_text.specs.Printing.{map_lines}
 use Rattle.xc_words.specs.declared.asked.Request.TheVariants.{Gen}
 use Rattle.xc_lines.specs.Texts.{broken_line}
 use Rattle.xc_lines.specs.declared.status.Status.TheVariants.{Done, No}

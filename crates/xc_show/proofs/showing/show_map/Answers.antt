@@ -1,4 +1,4 @@
-use Rattle.xc_sigmap.specs.Printing.{map_lines}
+use Rattle.xc_sigmap_text.specs.Printing.{map_lines}
 use Rattle.xc_sigmap.specs.MapFiles.{MapValue}
 use Rattle.xc_words.specs.declared.asked.ShowKind.TheVariants as kinds
 use Rattle.xc_course.proofs.Working.{works_passed}

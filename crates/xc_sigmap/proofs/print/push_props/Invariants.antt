@@ -1,7 +1,0 @@
-use Rattle.std.proofs.Common.{◌≡◌, ◌++◌, drop}
-use Rattle.xc_sigmap.specs.declared.statement.Statement.TheVariants.{Prop}
-use Rattle.xc_sigmap.specs.Written.{written}
-use Rattle.xc_sigmap.proofs.print.push_props.Given as goal
-
-abbrev pub invariant-loop-name : goal.invariant-loop-name
-invariant-loop-name l = l.text ++ written Prop (drop l.name-index l.props) ≡ l.fn.text ++ written Prop l.props

@@ -1,8 +1,0 @@
-use Rattle.std.proofs.Common.{◌∙◌}
-use Rattle.xc_sigmap.specs.Maps.{value_of}
-use Rattle.xc_sigmap.proofs.Printing.{tell_here}
-use Rattle.xc_sigmap.proofs.print.push_tells.Goals as goal
-
-pub push_tell-requires : goal.push_tell-requires
-push_tell-requires c =
-    tell_here (value_of c.args.map.now) c.as_slice-line-items.result.now c.loop-line.line-index c.line-item.result c.args.map.now.sound (c.as_slice-line-items.ensures ∙ c.tells.ensures) c.loop-line-test.true c.line-item.is

@@ -1,7 +1,0 @@
-use Rattle.std.proofs.Common.{◌≡◌, ◌++◌, drop}
-use Rattle.xc_sigmap.specs.declared.statement.Statement.TheVariants.{Use}
-use Rattle.xc_sigmap.specs.Written.{written}
-use Rattle.xc_sigmap.proofs.print.push_uses.Given as goal
-
-abbrev pub invariant-loop-declared : goal.invariant-loop-declared
-invariant-loop-declared l = l.text ++ written Use (drop l.declared-index l.uses) ≡ l.fn.text ++ written Use l.uses

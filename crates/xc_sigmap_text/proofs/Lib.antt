@@ -1,0 +1,9 @@
+pub mod Printing
+pub mod Restating
+pub mod Declaring
+pub mod Telling
+pub mod ByKind
+pub mod Again
+pub mod Rereading
+pub mod Short
+pub mod Facts
