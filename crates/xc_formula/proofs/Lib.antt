@@ -1,0 +1,8 @@
+pub mod Facts
+pub mod FormulaReading
+pub mod Implications
+pub mod NameReading
+pub mod NameSteps
+pub mod ParserSteps
+pub mod Sizes
+pub mod WrittenOut

@@ -1,0 +1,5 @@
+pub mod Written
+pub mod FormulaReading
+pub mod Reading
+pub mod Resolved
+pub mod Laws
