@@ -1,15 +1,13 @@
 -- Formulas at small cases that are known from outside: a wrong definition does not check here.
 use Rattle.std.proofs.Common.{◌≡◌, ℕ, true, false, [], ◌∷◌, Some, None, codes, refl}
 use Rattle.xc_base.specs.Operators.{chained, chain as chain_on, chain_up_to}
-use Rattle.xc_ctl.specs.Trees.{Const, Atom, Not, Or, Ex, Eu, Au, Eg}
-use Rattle.xc_ctl.proofs.Facts.{M, T, p, pair}
+use Rattle.xc_ctl.proofs.Facts.{M, T, p}
 use Rattle.xc_formula.specs.Written as written
 use Rattle.xc_formula.specs.Written.{is_prop_name, IsFormula}
 use Rattle.xc_formula.specs.Written.IsSpelled.{truth, factor, summand, conclusion, prefixed, until}
 use Rattle.xc_formula.specs.FormulaReading as reading
 use Rattle.xc_formula.specs.FormulaReading.{names, one_name, atom, implications, implications_up_to, basic, nested, sum, implication}
 use Rattle.xc_formula.specs.Reading.{formula_in}
-use Rattle.xc_formula.specs.Resolved.{resolved}
 use Rattle.xc_formula.specs.declared.prefix.Prefix.TheVariants.{Negation, SomeNext, AllNext, SomeFinally, AllFinally, SomeGlobally, AllGlobally}
 use Rattle.xc_formula.specs.declared.prefix.Paths.TheVariants.{SomePath, EveryPath}
 
@@ -51,14 +49,3 @@ spelled = (
   conclusion 512 _ _ (summand 512 _ _ (factor 512 _ _ (prefixed 511 AllNext _ _ (truth 511)))),
   conclusion 512 _ _ (summand 512 _ _ (factor 512 _ _ (until 511 SomePath (codes "true" ∷ []) (codes "true" ∷ []) _ _ (whole_truth 511) (whole_truth 511)))),
 )
-
--- what stands for abbreviations: `AX p` is `!EX!p`, and `p -> p` is `!p | p`
-pub written_out : (resolved pair (written.Prefixed AllNext (written.Name p)) ≡ Some (Not (Ex (Not (Atom 0))))) × (resolved pair (written.Implies (written.Name p) written.False) ≡ Some (Or (Not (Atom 0)) (Const 0)))
-    × (resolved pair written.True ≡ Some (Const 5)) × (resolved pair (written.Name (codes "q")) ≡ None)
-written_out = (refl, refl, refl, refl)
-
--- `EF p` is `E[true U p]`, `AF p` is `A[true U p]`, and `AG p` is `!E[true U !p]`
-pub paths_written_out : (resolved pair (written.Prefixed SomeFinally (written.Name p)) ≡ Some (Eu (Const 5) (Atom 0))) × (resolved pair (written.Prefixed AllFinally (written.Name p)) ≡ Some (Au (Const 5) (Atom 0)))
-    × (resolved pair (written.Prefixed AllGlobally (written.Name p)) ≡ Some (Not (Eu (Const 5) (Not (Atom 0))))) × (resolved pair (written.Prefixed SomeGlobally (written.Name p)) ≡ Some (Eg (Atom 0)))
-    × (resolved pair (written.Until EveryPath (written.Name p) written.False) ≡ Some (Au (Atom 0) (Const 0)))
-paths_written_out = (refl, refl, refl, refl, refl)

@@ -4,5 +4,3 @@ pub mod Implications
 pub mod NameReading
 pub mod NameSteps
 pub mod ParserSteps
-pub mod Sizes
-pub mod WrittenOut

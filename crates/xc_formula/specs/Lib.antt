@@ -1,5 +1,4 @@
 pub mod Written
 pub mod FormulaReading
 pub mod Reading
-pub mod Resolved
 pub mod Laws

@@ -1,4 +1,4 @@
-//! Formulas of computation tree logic as they are written: tokens are read as a formula, which is then written out.
+//! Formulas of computation tree logic as they are written, and how tokens are read as one.
 #![tactic(auto)]
 
 mod atom_parser;
@@ -7,12 +7,9 @@ mod operators;
 mod parser;
 mod phrase;
 mod prefix;
-mod resolver;
 mod words;
-mod written_out;
 
 pub use laws::formulas_are_read;
 pub use parser::parse_formula;
 pub use phrase::Phrase;
 pub use prefix::{Paths, Prefix};
-pub use resolver::resolve;

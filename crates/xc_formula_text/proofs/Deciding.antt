@@ -6,7 +6,7 @@ use Rattle.xc_base.specs.declared.fault.FileFault.{FileFault}
 use Rattle.xc_formula.specs.Written.{Written}
 use Rattle.xc_formula.specs.Reading.{formula_in}
 use Rattle.xc_ctl.specs.Trees.{Signature, Tree}
-use Rattle.xc_formula.specs.Resolved.{resolved}
+use Rattle.xc_resolved.specs.Resolved.{resolved}
 use Rattle.xc_formula_text.specs.FormulaFiles.{tree_excess, table_in, formula_format}
 use Rattle.xc_formula_text.specs.Deciding.{decide, known_table, formula_table, row_table}
 use Rattle.xc_ctl.specs.declared.kind.Kind.{Kind}

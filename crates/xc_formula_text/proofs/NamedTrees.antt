@@ -13,8 +13,8 @@ use Rattle.xc_base.proofs.Naming.{same_bytes}
 use Rattle.xc_formula.specs.Written.{Written, Level, IsSpelled, is_prop_name}
 use Rattle.xc_formula.specs.Written.IsSpelled.{truth, falsity, name, braces, prefixed, until, enclosed, factor, and, summand, or, conclusion, implies}
 use Rattle.xc_ctl.specs.Trees.{Signature, Tree, Const, Atom, Not, And, Or, Ex, Eu, Au, Eg, sizes_of, both, digits_named}
-use Rattle.xc_formula.specs.Resolved.{resolved}
-use Rattle.xc_formula.specs.Resolved as resolving
+use Rattle.xc_resolved.specs.Resolved.{resolved}
+use Rattle.xc_resolved.specs.Resolved as resolving
 use Rattle.xc_formula_text.specs.Texts.{digit_names}
 use Rattle.xc_formula.specs.declared.prefix.Prefix.{Prefix}
 use Rattle.xc_formula.specs.declared.prefix.Prefix.TheVariants.{Negation, SomeNext, AllNext, SomeFinally, AllFinally, SomeGlobally, AllGlobally}

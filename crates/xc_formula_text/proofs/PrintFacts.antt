@@ -10,7 +10,7 @@ use Rattle.xc_formula.specs.FormulaReading.{names, one_name, atom, implications,
 use Rattle.xc_formula.specs.Reading.{formula_in}
 use Rattle.xc_formula_text.specs.Rereading.{IsGiven, IsOneLine}
 use Rattle.xc_ctl.specs.Trees.{Signature, Tree, Const, Atom, Not, And, Or, Ex, Eu, Au, Eg}
-use Rattle.xc_formula.specs.Resolved.{resolved}
+use Rattle.xc_resolved.specs.Resolved.{resolved}
 use Rattle.xc_ctl.specs.Tables.{nodes_of}
 use Rattle.xc_ctl.specs.TableTrees.{trees_of, formula_of}
 use Rattle.xc_formula_text.specs.Texts.{tokens_of, text_of}

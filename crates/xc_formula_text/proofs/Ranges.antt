@@ -11,8 +11,8 @@ use Rattle.xc_base.proofs.Naming.{found_in_range}
 use Rattle.xc_formula.specs.Written.{Written, True, False, Name, Braces, Prefixed, Until, Implies}
 use Rattle.xc_formula.specs.Written as written
 use Rattle.xc_ctl.specs.Trees.{Signature, Tree, is_fit, sizes_of, both, digits_named, element_named}
-use Rattle.xc_formula.specs.Resolved.{resolved}
-use Rattle.xc_formula.specs.Resolved as resolving
+use Rattle.xc_resolved.specs.Resolved.{resolved}
+use Rattle.xc_resolved.specs.Resolved as resolving
 use Rattle.xc_ctl.specs.Trees as trees
 use Rattle.xc_ctl.specs.Tables.{size_of, nodes_from, is_kind_in, is_table_in}
 use Rattle.xc_ctl.specs.Trees.{is_tree_in}

@@ -15,7 +15,7 @@ use Rattle.xc_base.proofs.Rows.{row_first}
 use Rattle.xc_base.proofs.Deciding.{statements_of-end, statements_of-next, statements_of-stops, gives_statements, gives_faults}
 use Rattle.xc_formula.specs.Written.{Written}
 use Rattle.xc_ctl.specs.Trees.{Signature, sizes_of, is_fit}
-use Rattle.xc_formula.specs.Resolved.{resolved}
+use Rattle.xc_resolved.specs.Resolved.{resolved}
 use Rattle.xc_ctl.specs.Tables.{is_table_in}
 use Rattle.xc_formula_text.specs.FormulaFiles.{missing_part, table_in, tables_of, formula_format, IsStop}
 use Rattle.xc_formula_text.specs.Deciding.{decide, row_table, tables_in, HasRead}

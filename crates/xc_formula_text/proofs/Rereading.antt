@@ -12,7 +12,7 @@ use Rattle.xc_base.proofs.CanonicalTexts.{canonical_is_cut, canonical_is_sound, 
 use Rattle.xc_base.proofs.SpacedTokens.{line_ends}
 use Rattle.xc_formula.specs.Written.{Written, IsFormula}
 use Rattle.xc_ctl.specs.Trees.{Signature, Tree, is_fit}
-use Rattle.xc_formula.specs.Resolved.{resolved}
+use Rattle.xc_resolved.specs.Resolved.{resolved}
 use Rattle.xc_ctl.specs.Tables.{size_of, nodes_of}
 use Rattle.xc_ctl.specs.TableTrees.{formula_of}
 use Rattle.xc_formula_text.specs.Texts.{tokens_of, text_of}

@@ -10,7 +10,7 @@ use Rattle.xc_base.proofs.Deciding.{statements_are_unique, first_faults_are_uniq
 use Rattle.xc_base.specs.declared.fault.FileFault.{FileFault}
 use Rattle.xc_formula.specs.Written.{Written}
 use Rattle.xc_ctl.specs.Trees.{Signature, Tree}
-use Rattle.xc_formula.specs.Resolved.{resolved}
+use Rattle.xc_resolved.specs.Resolved.{resolved}
 use Rattle.xc_ctl.specs.Tables.{size_of, is_table}
 use Rattle.xc_formula_text.specs.FormulaFiles.{node_limit, tree_excess, table_in, tables_of, formula_format}
 use Rattle.xc_formula_text.specs.Laws.{TablesAreUnique, FaultsAreUnique, AcceptedHasNoFault, EachIsJudged}

@@ -10,7 +10,7 @@ use Rattle.xc_base.proofs.Naming.{place_of-name_at}
 use Rattle.xc_formula.specs.Written.{Written, True, False, Name, Braces, Prefixed, Until}
 use Rattle.xc_formula.specs.Written as written
 use Rattle.xc_ctl.specs.Trees.{Signature, Tree, Const, Atom, Not, And, Or, Ex, Eu, Au, Eg, is_part, is_fit, sizes_of, digits_named, element_named}
-use Rattle.xc_formula.specs.Resolved.{resolved}
+use Rattle.xc_resolved.specs.Resolved.{resolved}
 use Rattle.xc_formula_text.specs.Texts.{digit_names}
 use Rattle.xc_ctl.specs.Trees.{is_tree_in}
 use Rattle.xc_formula.specs.declared.prefix.Prefix.TheVariants.{Negation, SomeNext, SomeGlobally}

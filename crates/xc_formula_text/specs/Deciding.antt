@@ -8,7 +8,7 @@ use Rattle.xc_base.specs.declared.fault.FileFault.TheVariants.{NoStatement, Unkn
 use Rattle.xc_formula.specs.Written.{Written}
 use Rattle.xc_formula.specs.Reading.{formula_in}
 use Rattle.xc_ctl.specs.Trees.{Signature, Tree}
-use Rattle.xc_formula.specs.Resolved.{resolved}
+use Rattle.xc_resolved.specs.Resolved.{resolved}
 use Rattle.xc_ctl.specs.Tables.{nodes_of}
 use Rattle.xc_formula_text.specs.FormulaFiles.{tree_excess, tables_of, formula_format}
 use Rattle.xc_ctl.specs.declared.kind.Kind.{Kind}

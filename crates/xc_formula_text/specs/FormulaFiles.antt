@@ -9,7 +9,7 @@ use Rattle.xc_base.specs.declared.fault.Stop.{Stop}
 use Rattle.xc_base.specs.declared.fault.Stop.TheVariants.{File, Memory}
 use Rattle.xc_formula.specs.Written.{Written, IsFormula}
 use Rattle.xc_ctl.specs.Trees.{Signature, Tree}
-use Rattle.xc_formula.specs.Resolved.{resolved}
+use Rattle.xc_resolved.specs.Resolved.{resolved}
 use Rattle.xc_formula_text.specs.Texts.{text_of}
 use Rattle.xc_ctl.specs.Tables.{size_of, nodes_of}
 use Rattle.xc_ctl.specs.declared.kind.Kind.{Kind}

@@ -16,7 +16,8 @@ use crate::printer::text_of;
 use std::alloc::Global;
 use xc_base::{Counted, FileFault, Lexeme, Lines, List, Stop};
 use xc_ctl::{Formula, Kind, Tree, Vocabulary, nodes_of, tree_size};
-use xc_formula::{parse_formula, resolve};
+use xc_formula::parse_formula;
+use xc_resolved::resolve;
 
 /// How many nodes a formula may have, how many bytes its text, and how many formulas a file.
 const NODE_LIMIT: usize = 256;
@@ -60,7 +61,7 @@ fn tree_table(
 }
 
 /// The table of the formula that a row with these tokens is, after so many others.
-#[tactic(auto, using(std::proofs::lemmas::Grind::common_steps, xc_formula::proofs::Sizes::formula_size, crate::proofs::Ranges::tree_in_range), unfolding(crate::specs::Deciding::row_table))]
+#[tactic(auto, using(std::proofs::lemmas::Grind::common_steps, xc_resolved::proofs::Sizes::formula_size, crate::proofs::Ranges::tree_in_range), unfolding(crate::specs::Deciding::row_table))]
 fn row_table(
     alloc: Global,
     vocabulary: &Vocabulary,

@@ -14,7 +14,7 @@ use Rattle.xc_ctl.specs.Formulas.{nodes_in}
 use Rattle.xc_ctl.specs.Tables.{is_table_in, size_of}
 use Rattle.xc_formula_text.specs.Texts.{text_of}
 use Rattle.xc_ctl.specs.Trees.{Signature, Tree, sizes_of}
-use Rattle.xc_formula.specs.Resolved.{resolved}
+use Rattle.xc_resolved.specs.Resolved.{resolved}
 use Rattle.xc_formula.specs.Written.{Written}
 use Rattle.xc_ctl.specs.declared.formula.Formulas.{Formulas}
 use Rattle.xc_ctl.specs.declared.kind.Kind.{Kind}

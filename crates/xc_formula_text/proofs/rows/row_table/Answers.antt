@@ -4,10 +4,10 @@ use Rattle.xc_base.specs.Lines.{texts}
 use Rattle.xc_formula.specs.FormulaReading.{written}
 use Rattle.xc_formula.specs.Reading.{formula_in}
 use Rattle.xc_ctl.specs.Formulas.{signature, tree_of}
-use Rattle.xc_formula.specs.Resolved.{resolved}
+use Rattle.xc_resolved.specs.Resolved.{resolved}
 use Rattle.xc_base.proofs.SpacedTokens.{texts_count}
 use Rattle.xc_formula_text.proofs.Ranges.{tree_in_range}
-use Rattle.xc_formula.proofs.Sizes.{formula_size}
+use Rattle.xc_resolved.proofs.Sizes.{formula_size}
 use Rattle.xc_formula_text.proofs.rows.row_table.Goals as goal
 
 pub tree_table-requires-clause-size : goal.tree_table-requires-clause-size

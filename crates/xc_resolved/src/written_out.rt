@@ -3,14 +3,14 @@
 ghost use Rattle.std.specs.Prelude.{◌≡◌, IfOk};
 ghost use Rattle.std.specs.Option.{option_map};
 ghost use Rattle.xc_ctl.specs.Trees.{Const, Not, And, Or, Ex, Eg, both};
-ghost use Rattle.xc_formula.specs.Resolved.{prefixed, until};
+ghost use Rattle.xc_resolved.specs.Resolved.{prefixed, until};
 ghost use Rattle.xc_ctl.specs.Formulas.{tree_of};
 ghost use Rattle.xc_formula.specs.declared.prefix.Prefix.TheVariants.{AllGlobally};
 
-use crate::prefix::{Paths, Prefix};
 use std::alloc::Global;
 use xc_base::Memory;
 use xc_ctl::Tree;
+use xc_formula::{Paths, Prefix};
 
 fn not(alloc: Global, tree: Option<Tree>) -> Result<Option<Tree>, Memory>
     ensures { IfOk result (λ t. option_map tree_of t ≡ option_map Not (option_map tree_of tree)) }

@@ -6,8 +6,8 @@ use Rattle.std.specs.Str.{bytes_eq}
 use Rattle.xc_formula.specs.Written.{Written, Level, IsSpelled}
 use Rattle.xc_formula.specs.Written.IsSpelled.{truth, falsity, name, braces, prefixed, until, enclosed, factor, and, summand, or, conclusion, implies}
 use Rattle.xc_ctl.specs.Trees.{Signature, Tree, Const, Atom, Not, And, Or, both, element_named}
-use Rattle.xc_formula.specs.Resolved.{resolved}
-use Rattle.xc_formula.specs.Resolved as resolving
+use Rattle.xc_resolved.specs.Resolved.{resolved}
+use Rattle.xc_resolved.specs.Resolved as resolving
 use Rattle.xc_ctl.specs.Tables.{size_of}
 use Rattle.xc_formula.specs.declared.prefix.Prefix.{Prefix}
 use Rattle.xc_formula.specs.declared.prefix.Prefix.TheVariants.{Negation, SomeNext, AllNext, SomeFinally, AllFinally, SomeGlobally, AllGlobally}

@@ -2,7 +2,7 @@
 use Rattle.std.proofs.Common.{◌≡◌, ℕ, Option, Some, None, refl}
 use Rattle.std.specs.Option.{option_map}
 use Rattle.xc_ctl.specs.Trees.{Tree, Const, Not, Or, Ex, both}
-use Rattle.xc_formula.specs.Resolved.{prefixed, until}
+use Rattle.xc_resolved.specs.Resolved.{prefixed, until}
 use Rattle.xc_formula.specs.declared.prefix.Prefix.TheVariants.{AllGlobally}
 use Rattle.xc_formula.specs.declared.prefix.Paths.{Paths}
 use Rattle.xc_formula.specs.declared.prefix.Paths.TheVariants.{SomePath}

@@ -6,15 +6,15 @@ ghost use Rattle.std.specs.Option.{option_map};
 ghost use Rattle.std.specs.Str.{bytes_eq};
 ghost use Rattle.xc_base.specs.Lines.{texts};
 ghost use Rattle.xc_ctl.specs.Trees.{Const, Atom, element_named};
-ghost use Rattle.xc_formula.specs.Resolved.{resolved};
+ghost use Rattle.xc_resolved.specs.Resolved.{resolved};
 ghost use Rattle.xc_formula.specs.FormulaReading.{written};
 ghost use Rattle.xc_ctl.specs.Formulas.{signature, tree_of};
 
-use crate::phrase::Phrase;
 use crate::written_out::{and, implies, or, prefixed, until};
 use std::alloc::Global;
 use xc_base::{Lexeme, Memory, find_name};
 use xc_ctl::{Tree, Vocabulary, element};
+use xc_formula::Phrase;
 
 #[tactic(auto, using(std::proofs::lemmas::Grind::common_steps, xc_ctl::proofs::ElementCodes::prop_fits))]
 fn atom(vocabulary: &Vocabulary, name: &[u8]) -> Option<Tree>
