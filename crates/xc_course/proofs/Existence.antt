@@ -13,8 +13,8 @@ use Rattle.xc_view.specs.ViewFiles.{view_format}
 use Rattle.xc_view.proofs.Verdicts.{files_are_judged as each_view_is_judged}
 use Rattle.xc_sigmap.specs.MapFiles.{map_format}
 use Rattle.xc_sigmap.proofs.Verdicts.{files_are_judged as each_map_is_judged}
-use Rattle.xc_ctl.specs.FormulaFiles.{formula_format}
-use Rattle.xc_ctl.proofs.Verdicts.{formula_files_are_judged}
+use Rattle.xc_formula_text.specs.FormulaFiles.{formula_format}
+use Rattle.xc_formula_text.proofs.Verdicts.{formula_files_are_judged}
 use Rattle.xc_lines.specs.Texts.{text_line, fault_line}
 use Rattle.xc_course.specs.Courses.{Course, Event, Ends, Outcome, Absent, Refusal, Served, Opens, Reads, always, rest}
 use Rattle.xc_course.specs.Courses.Reads.{faulty, accepted}

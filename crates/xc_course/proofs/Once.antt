@@ -13,9 +13,9 @@ use Rattle.xc_view.specs.ViewFiles.{view_format}
 use Rattle.xc_view.proofs.Verdicts.{views_are_unique, faults_are_unique as view_faults_are_unique, accepted_is_faultless as views_have_no_fault}
 use Rattle.xc_sigmap.specs.MapFiles.{map_format}
 use Rattle.xc_sigmap.proofs.Verdicts.{maps_are_unique, faults_are_unique as map_faults_are_unique, accepted_is_faultless as maps_have_no_fault}
-use Rattle.xc_ctl.specs.FormulaFiles.{formula_format}
+use Rattle.xc_formula_text.specs.FormulaFiles.{formula_format}
 use Rattle.xc_ctl.specs.Trees.{Signature}
-use Rattle.xc_ctl.proofs.Verdicts.{tables_are_unique, formula_faults_are_unique, formulas_have_no_fault}
+use Rattle.xc_formula_text.proofs.Verdicts.{tables_are_unique, formula_faults_are_unique, formulas_have_no_fault}
 use Rattle.xc_lines.specs.Texts.{text_line, fault_line}
 use Rattle.xc_course.specs.Courses.{Course, Event, Ends, Loading, Outcome, Absent, Refusal, Opens, Reads, always, rest}
 use Rattle.xc_course.specs.Courses.Reads.{faulty, accepted}

@@ -4,7 +4,7 @@ use Rattle.std.specs.List.{list_all}
 use Rattle.xc_alg.specs.Products.{product}
 use Rattle.xc_merge.specs.Merges.{Merge, parts_of}
 use Rattle.xc_ctl.specs.Tables.{is_table, is_table_in}
-use Rattle.xc_ctl.specs.FormulaFiles.{formula_limit}
+use Rattle.xc_formula_text.specs.FormulaFiles.{formula_limit}
 use Rattle.xc_ctl.specs.declared.kind.Kind.{Kind}
 
 -- there are few of them, and the nodes of each are in order, with constants and propositions of the machine

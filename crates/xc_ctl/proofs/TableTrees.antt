@@ -10,7 +10,7 @@ use Rattle.xc_ctl.specs.Trees.{Signature, Tree, is_fit, sizes_of}
 use Rattle.xc_ctl.specs.Trees as trees
 use Rattle.xc_ctl.specs.Tables.{size_of, nodes_from, nodes_of, has_children_below, are_ordered_from, is_table, is_kind_in, is_table_in, node_at}
 use Rattle.xc_ctl.specs.TableTrees.{tree_at, tree_on, trees_on, trees_of, formula_of}
-use Rattle.xc_ctl.specs.Printing.{is_tree_in}
+use Rattle.xc_ctl.specs.Trees.{is_tree_in}
 use Rattle.xc_ctl.specs.declared.kind.Kind.{Kind}
 use Rattle.xc_ctl.specs.declared.kind.Kind.TheVariants.{Const, Atom, Not, And, Or, Ex, Eu, Au, Eg}
 use Rattle.xc_ctl.proofs.ElementCodes.{fit}

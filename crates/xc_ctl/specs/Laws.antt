@@ -1,48 +1,20 @@
 -- What follows from the definitions, as statements that public functions carry.
-use Rattle.std.specs.Prelude.{◌≡◌, ◌↔◌, ◌<◌, ◌≤◌, ◌*◌, ℕ, true, List, length, Some, ◌⊎◌}
+use Rattle.std.specs.Prelude.{◌≡◌, ◌<◌, ◌≤◌, ◌*◌, ℕ, true, List, length}
 use Rattle.std.specs.List.{sum}
 use Rattle.xc_alg.specs.Products.{product}
 use Rattle.xc_fixpoint.specs.Functions.{IsFunction, Agree}
 use Rattle.xc_product.specs.Heights.{AreHeights}
-use Rattle.xc_base.specs.declared.fault.FileFault.{FileFault}
-use Rattle.xc_base.specs.Formats.{Row, IsAccepted, IsFirstFault}
-use Rattle.xc_ctl.specs.Written.{Written, IsFormula}
-use Rattle.xc_ctl.specs.Trees.{Signature, Tree}
+use Rattle.xc_ctl.specs.Trees.{Tree}
 use Rattle.xc_ctl.specs.Tables.{nodes_of, are_ordered_from, is_table_in}
 use Rattle.xc_ctl.specs.TableTrees.{formula_of}
-use Rattle.xc_ctl.specs.FormulaFiles.{formula_format}
-use Rattle.xc_ctl.specs.Reading.{formula_in}
 use Rattle.xc_ctl.specs.Frames.{Frame, IsFrame}
 use Rattle.xc_ctl.specs.Denotations.{AreDenotations, IsDenoted}
 use Rattle.xc_ctl.specs.Rounds.{RoundsTable, IsTableFor}
 use Rattle.xc_ctl.specs.declared.kind.Kind.{Kind}
 
--- tokens are the formula that is read, and no other
-abbrev pub FormulasAreRead : Type 0
-FormulasAreRead = (tokens : List (List ℕ)) (f : Written) → (formula_in tokens ≡ Some f) ↔ IsFormula tokens f
-
-abbrev pub FormulasAreUnique : Type 0
-FormulasAreUnique = (tokens : List (List ℕ)) (f g : Written) → IsFormula tokens f → IsFormula tokens g → f ≡ g
-
 -- the table of a tree stands for that tree
 abbrev pub TablesStandForTrees : Type 0
 TablesStandForTrees = (tree : Tree) → formula_of (nodes_of tree) ≡ tree
-
--- no file says two lists of formulas
-abbrev pub TablesAreUnique : Type 0
-TablesAreUnique = (n : Signature) (rows : List Row) (tables others : List (List Kind)) → IsAccepted (formula_format n) rows tables → IsAccepted (formula_format n) rows others → tables ≡ others
-
--- no file has two first faults
-abbrev pub FaultsAreUnique : Type 0
-FaultsAreUnique = (n : Signature) (rows : List Row) (fault other : FileFault) → IsFirstFault (formula_format n) rows fault → IsFirstFault (formula_format n) rows other → fault ≡ other
-
--- no file is accepted and has a fault as well
-abbrev pub AcceptedHasNoFault : Type 0
-AcceptedHasNoFault = (n : Signature) (rows : List Row) (tables : List (List Kind)) (fault : FileFault) → IsAccepted (formula_format n) rows tables → IsFirstFault (formula_format n) rows fault → ⊥
-
--- each file is accepted or has a first fault
-abbrev pub EachIsJudged : Type 0
-EachIsJudged = (n : Signature) (rows : List Row) → ((tables : List (List Kind)) × IsAccepted (formula_format n) rows tables) ⊎ ((fault : FileFault) × IsFirstFault (formula_format n) rows fault)
 
 -- a law of the nodes of every table that is in range on every frame
 abbrev pub OfTables : (Frame → List Kind → Type 0) → Type 0

@@ -1,15 +1,7 @@
-pub mod Written
 pub mod Trees
-pub mod Texts
 pub mod Tables
 pub mod TableTrees
-pub mod FormulaFiles
 pub mod Formulas
-pub mod Deciding
-pub mod FormulaReading
-pub mod Printing
-pub mod Reading
-pub mod Rereading
 pub mod Resolving
 pub mod Frames
 pub mod Denotations

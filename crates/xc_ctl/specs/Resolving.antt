@@ -1,33 +1,14 @@
--- How the words of formulas are looked up, and the trees of the code.
--- Words for the steps of the code: public clauses do not rest on them.
+-- How the words of formulas are looked up, and the nodes of trees.
+-- Words for the steps of the code.
 use Rattle.std.specs.Prelude.{ℕ, ◌+◌, ◌*◌, List, [], drop, Option}
 use Rattle.std.specs.List.{position, slice_index_or}
 use Rattle.std.specs.Option.{option_map}
 use Rattle.std.specs.Str.{bytes_eq}
 use Rattle.xc_theory.specs.Codes.{total}
 use Rattle.xc_base.specs.Names.{name_at}
-use Rattle.xc_ctl.specs.Trees.{Signature, Tree, Const, Atom, Not, And, Or, Ex, Eu, Au, Eg, sizes_of, element_named}
-use Rattle.xc_ctl.specs.declared.vocabulary.Vocabulary.{Vocabulary}
+use Rattle.xc_ctl.specs.Trees.{Tree, Const, Atom, Not, And, Or, Ex, Eu, Au, Eg, sizes_of, element_named}
 use Rattle.xc_ctl.specs.declared.kind.Kind.{Kind}
 use Rattle.xc_ctl.specs.declared.kind.Kind.TheVariants as kinds
-use Rattle.xc_ctl.specs.declared.tree.Tree.{Tree as Boxed}
-use Rattle.xc_ctl.specs.declared.tree.Tree.TheVariants as boxed
-
--- the signature that a vocabulary of the code is
-abbrev pub signature : Vocabulary → Signature
-signature v = record { props = v.props.now; parts = v.parts.now; bottom = v.bottom; top = v.top }
-
--- the tree that one of the code is
-abbrev pub tree_of : Boxed → Tree
-tree_of (boxed.Const c) = Const c
-tree_of (boxed.Atom p) = Atom p
-tree_of (boxed.Not' p t) = Not (tree_of t)
-tree_of (boxed.And' p s q t) = And (tree_of s) (tree_of t)
-tree_of (boxed.Or' p s q t) = Or (tree_of s) (tree_of t)
-tree_of (boxed.Ex' p t) = Ex (tree_of t)
-tree_of (boxed.Eu' p s q t) = Eu (tree_of s) (tree_of t)
-tree_of (boxed.Au' p s q t) = Au (tree_of s) (tree_of t)
-tree_of (boxed.Eg' p t) = Eg (tree_of t)
 
 -- the node of a tree whose children have these numbers
 abbrev pub kind_of : Tree → ℕ → ℕ → Kind

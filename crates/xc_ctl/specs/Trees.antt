@@ -5,12 +5,6 @@ use Rattle.std.specs.Option.{option_map}
 use Rattle.std.specs.Str.{bytes_eq}
 use Rattle.xc_theory.specs.Codes.{total, code_of}
 use Rattle.xc_base.specs.Names.{has_twice}
-use Rattle.xc_ctl.specs.Written.{Written, True, False, Name, Braces, Prefixed, Until, Implies}
-use Rattle.xc_ctl.specs.Written as written
-use Rattle.xc_ctl.specs.declared.prefix.Prefix.{Prefix}
-use Rattle.xc_ctl.specs.declared.prefix.Prefix.TheVariants.{Negation, SomeNext, AllNext, SomeFinally, AllFinally, SomeGlobally, AllGlobally}
-use Rattle.xc_ctl.specs.declared.prefix.Paths.{Paths}
-use Rattle.xc_ctl.specs.declared.prefix.Paths.TheVariants.{SomePath, EveryPath}
 
 -- what formulas are about: the names of the propositions, those of the elements of each part, and the codes of the bottom
 -- and the top
@@ -46,6 +40,18 @@ pub data Tree : Type 0 where
   Au : Tree → Tree → Tree
   Eg : Tree → Tree
 
+-- constants are below the number of elements, and propositions below that of propositions
+abbrev pub is_tree_in : ℕ → ℕ → Tree → Bool
+is_tree_in elements props (Const c) = nat_lt c elements
+is_tree_in elements props (Atom p) = nat_lt p props
+is_tree_in elements props (Not t) = is_tree_in elements props t
+is_tree_in elements props (And s t) = is_tree_in elements props s && is_tree_in elements props t
+is_tree_in elements props (Or s t) = is_tree_in elements props s && is_tree_in elements props t
+is_tree_in elements props (Ex t) = is_tree_in elements props t
+is_tree_in elements props (Eu s t) = is_tree_in elements props s && is_tree_in elements props t
+is_tree_in elements props (Au s t) = is_tree_in elements props s && is_tree_in elements props t
+is_tree_in elements props (Eg t) = is_tree_in elements props t
+
 abbrev pub both : {X Y Z : Type 0} → (X → Y → Z) → Option X → Option Y → Option Z
 both f None o = None
 both f (Some x) None = None
@@ -60,31 +66,3 @@ digits_named (names ∷ parts) (v ∷ values) = both (λ digit row. digit ∷ ro
 
 abbrev pub element_named : List (List (List ℕ)) → List (List ℕ) → Option ℕ
 element_named parts values = option_map (code_of (sizes_of parts)) (digits_named parts values)
-
--- A formula behind a prefix, in terms of `!`, `EX`, `EG` and the two untils: "at all next states" and "always, on all paths" by the
--- negation of what they exclude, "some time" as an until with nothing to hold before.
-abbrev pub prefixed : ℕ → Prefix → Tree → Tree
-prefixed top Negation t = Not t
-prefixed top SomeNext t = Ex t
-prefixed top AllNext t = Not (Ex (Not t))
-prefixed top SomeFinally t = Eu (Const top) t
-prefixed top AllFinally t = Au (Const top) t
-prefixed top SomeGlobally t = Eg t
-prefixed top AllGlobally t = Not (Eu (Const top) (Not t))
-
--- two formulas in brackets
-abbrev pub until : Paths → Tree → Tree → Tree
-until SomePath s t = Eu s t
-until EveryPath s t = Au s t
-
--- A formula written out, where its names are known. An implication is a disjunction.
-abbrev pub resolved : Signature → Written → Option Tree
-resolved n True = Some (Const n.top)
-resolved n False = Some (Const n.bottom)
-resolved n (Name p) = option_map Atom (position (bytes_eq p) n.props)
-resolved n (Braces values) = option_map Const (element_named n.parts values)
-resolved n (Prefixed p f) = option_map (prefixed n.top p) (resolved n f)
-resolved n (Until q f g) = both (until q) (resolved n f) (resolved n g)
-resolved n (written.And f g) = both And (resolved n f) (resolved n g)
-resolved n (written.Or f g) = both Or (resolved n f) (resolved n g)
-resolved n (Implies f g) = both (λ s t. Or (Not s) t) (resolved n f) (resolved n g)

@@ -11,7 +11,7 @@ ghost use Rattle.xc_ctl.specs.Resolving.{part_at, digit_at, total_from};
 use xc_base::{Lexeme, List, Word, find_name};
 
 /// The names of the part at a place.
-pub(crate) fn part_at(parts: &List<List<Word>>, place: usize) -> &[Word]
+pub fn part_at(parts: &List<List<Word>>, place: usize) -> &[Word]
     requires { place < length parts.now }
     ensures { result.now ≡ part_at parts.now place }
 {
@@ -20,7 +20,7 @@ pub(crate) fn part_at(parts: &List<List<Word>>, place: usize) -> &[Word]
 
 /// How many elements the part at a place has.
 #[tactic(auto, using(std::proofs::lemmas::Grind::common_steps, crate::proofs::ElementCodes::part_some, crate::proofs::ElementCodes::part_few))]
-pub(crate) fn size_at(parts: &List<List<Word>>, place: usize) -> u16
+fn size_at(parts: &List<List<Word>>, place: usize) -> u16
     requires fit { list_all is_part parts.now ≡ true }
     requires range { place < length parts.now }
     ensures is { result ≡ length (part_at parts.now place) }
@@ -32,7 +32,7 @@ pub(crate) fn size_at(parts: &List<List<Word>>, place: usize) -> u16
 
 /// How many elements the parts from a place on have together.
 #[tactic(auto, using(std::proofs::lemmas::Grind::common_steps, crate::proofs::ElementCodes::total_none, crate::proofs::ElementCodes::total_stepped, crate::proofs::ElementCodes::stepped_fits, crate::proofs::ElementCodes::total_some))]
-pub(crate) fn total_from(parts: &List<List<Word>>, place: usize) -> u16
+pub fn total_from(parts: &List<List<Word>>, place: usize) -> u16
     requires fit { list_all is_part parts.now ≡ true }
     requires few { total (sizes_of parts.now) ≤ 4096 }
     requires range { place ≤ length parts.now }
@@ -47,7 +47,7 @@ pub(crate) fn total_from(parts: &List<List<Word>>, place: usize) -> u16
 }
 
 /// The text at a place.
-pub(crate) fn text_at<'a>(values: &[Lexeme<'a>], place: usize) -> &'a [u8]
+fn text_at<'a>(values: &[Lexeme<'a>], place: usize) -> &'a [u8]
     requires { place < length values.now }
     ensures { result.now ≡ name_at (texts values.now) place }
 {
@@ -71,7 +71,7 @@ fn digit_at(parts: &List<List<Word>>, values: &[Lexeme], place: usize) -> Option
 
 /// The element with these names as its digits, one of each part.
 #[tactic(auto, using(std::proofs::lemmas::Grind::common_steps, crate::proofs::ElementCodes::element_steps))]
-pub(crate) fn element(parts: &List<List<Word>>, values: &[Lexeme]) -> Option<u16>
+pub fn element(parts: &List<List<Word>>, values: &[Lexeme]) -> Option<u16>
     requires fit { list_all is_part parts.now ≡ true }
     requires few { total (sizes_of parts.now) ≤ 4096 }
     ensures { result ≡ element_named parts.now (texts values.now) }

@@ -13,7 +13,7 @@ pub struct Formula {
 
 impl Formula {
     /// The formula of a table.
-    pub(crate) fn of(nodes: List<Kind>) -> Formula
+    pub fn of(nodes: List<Kind>) -> Formula
         requires { is_table nodes ≡ true }
         ensures { result.nodes ≡ nodes }
     {

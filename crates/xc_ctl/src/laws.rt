@@ -1,5 +1,5 @@
 //! Laws of the definitions in `specs/`, carried by a function with an empty body.
-ghost use Rattle.xc_ctl.specs.Laws.{FormulasAreRead, FormulasAreUnique, TablesStandForTrees};
+ghost use Rattle.xc_ctl.specs.Laws.{TablesStandForTrees};
 ghost use Rattle.xc_ctl.specs.Laws.{RoundsExist, RoundsAreUnique, RoundsAreFew};
 ghost use Rattle.xc_ctl.specs.Laws.{DenotationsExist, DenotationsAreUnique, DenotationsAreInRange, FormulasDenote, FormulasDenoteOnce};
 
@@ -20,13 +20,6 @@ pub fn formulas_have_one_table()
     ensures exist { RoundsExist }
     ensures unique { RoundsAreUnique }
     ensures few { RoundsAreFew }
-{}
-
-/// Tokens are the formula that is read and no other, and no tokens are two formulas.
-#[tactic(auto, using(crate::proofs::FormulaReading::formulas_are_read, crate::proofs::FormulaReading::formulas_are_unique))]
-pub fn formulas_are_read()
-    ensures read { FormulasAreRead }
-    ensures unique { FormulasAreUnique }
 {}
 
 /// The table of a formula that is written out stands for that formula.

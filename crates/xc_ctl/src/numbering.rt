@@ -2,7 +2,8 @@
 
 ghost use Rattle.std.specs.Prelude.{◌≡◌, ◌+◌, ◌-◌, ◌≤◌, ◌++◌, length, IfOk, OnOk};
 ghost use Rattle.xc_ctl.specs.Tables.{size_of, nodes_from, nodes_of};
-ghost use Rattle.xc_ctl.specs.Resolving.{tree_of, kind_of};
+ghost use Rattle.xc_ctl.specs.Formulas.{tree_of};
+ghost use Rattle.xc_ctl.specs.Resolving.{kind_of};
 
 use crate::kind::Kind;
 use crate::tree::Tree;
@@ -10,17 +11,17 @@ use std::alloc::Global;
 use xc_base::{List, Memory};
 
 /// How many nodes a tree has.
-pub(crate) fn size(tree: &Tree) -> usize
+pub fn tree_size(tree: &Tree) -> usize
     requires { size_of (tree_of tree.now) ≤ 18446744073709551615 }
     ensures { result ≡ size_of (tree_of tree.now) }
 {
     match tree {
         Tree::Const(_) | Tree::Atom(_) => 1,
-        Tree::Not(inner) | Tree::Ex(inner) | Tree::Eg(inner) => size(inner) + 1,
+        Tree::Not(inner) | Tree::Ex(inner) | Tree::Eg(inner) => tree_size(inner) + 1,
         Tree::And(left, right)
         | Tree::Or(left, right)
         | Tree::Eu(left, right)
-        | Tree::Au(left, right) => size(left) + size(right) + 1,
+        | Tree::Au(left, right) => tree_size(left) + tree_size(right) + 1,
     }
 }
 
@@ -78,7 +79,7 @@ fn push_nodes(tree: &Tree, nodes: &mut List<Kind>) -> Result<(), Memory>
 }
 
 /// The table of a tree.
-pub(crate) fn nodes_of(alloc: Global, tree: &Tree) -> Result<List<Kind>, Memory>
+pub fn nodes_of(alloc: Global, tree: &Tree) -> Result<List<Kind>, Memory>
     requires { size_of (tree_of tree.now) ≤ 256 }
     ensures { IfOk result (λ nodes. nodes ≡ nodes_of (tree_of tree.now)) }
 {

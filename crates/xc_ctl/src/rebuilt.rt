@@ -1,7 +1,7 @@
 //! The formula that a table of nodes stands for.
 
 ghost use Rattle.std.specs.Prelude.{◌≡◌, ◌<◌, true, length, IfOk};
-ghost use Rattle.xc_ctl.specs.Resolving.{tree_of};
+ghost use Rattle.xc_ctl.specs.Formulas.{tree_of};
 ghost use Rattle.xc_ctl.specs.Tables.{has_children_below, are_ordered_from, node_at};
 ghost use Rattle.xc_ctl.specs.TableTrees.{trees_of, tree_at, tree_on, formula_of};
 
@@ -54,7 +54,7 @@ fn tree_on(alloc: Global, before: &[Kind], node: Kind) -> Result<Tree, Memory>
 
 /// The tree of its last node.
 #[tactic(auto, using(std::proofs::lemmas::Grind::common_steps, crate::proofs::TableTrees::table_some, crate::proofs::TableTrees::ordered, crate::proofs::TableTrees::front_ordered, crate::proofs::TableTrees::front_children))]
-pub(crate) fn formula_of(alloc: Global, formula: &Formula) -> Result<Tree, Memory>
+pub fn formula_of(alloc: Global, formula: &Formula) -> Result<Tree, Memory>
     ensures { IfOk result (λ tree. tree_of tree ≡ formula_of formula.now.nodes) }
 {
     let nodes = formula.nodes().as_slice();

@@ -1,6 +1,6 @@
 /// A formula written out: with places and codes in place of names, and without abbreviations.
 #[derive(Debug, Drop)]
-pub(crate) enum Tree {
+pub enum Tree {
     Const(u16),
     Atom(u16),
     Not(Box<Tree>),

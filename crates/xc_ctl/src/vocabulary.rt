@@ -5,13 +5,13 @@ use xc_base::{List, Word};
 
 /// What the words of formulas stand for.
 #[derive(Clone, Copy)]
-pub(crate) struct Vocabulary<'v> {
+pub struct Vocabulary<'v> {
     /// The names of the propositions.
-    pub(crate) props: &'v List<Word>,
+    pub props: &'v List<Word>,
     /// The names of the elements of each part.
-    pub(crate) parts: &'v List<List<Word>>,
+    pub parts: &'v List<List<Word>>,
     /// The codes of the least and the greatest element of their product.
-    pub(crate) bottom: u16,
-    pub(crate) top: u16,
-    pub(crate) ghost fit: { is_fit (record { props = props.now; parts = parts.now; bottom = bottom; top = top }) ≡ true },
+    pub bottom: u16,
+    pub top: u16,
+    pub ghost fit: { is_fit (record { props = props.now; parts = parts.now; bottom = bottom; top = top }) ≡ true },
 }

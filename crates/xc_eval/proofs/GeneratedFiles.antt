@@ -10,7 +10,7 @@ use Rattle.xc_base.specs.declared.shelf.File.{File}
 use Rattle.xc_sigmap.specs.MapFiles.{MapValue, map_format}
 use Rattle.xc_sigmap.specs.declared.parts.Use.{Use}
 use Rattle.xc_merge.specs.Merges.{Merge, Viewpoint}
-use Rattle.xc_ctl.specs.FormulaFiles.{formula_format}
+use Rattle.xc_formula_text.specs.FormulaFiles.{formula_format}
 use Rattle.xc_report.specs.Reports.{signature_of}
 use Rattle.xc_gen.specs.Generated.{chain_text, diamond_text, view_text, map_text, formulas_text, files_of as generated_files, generated, is_size, IsFaultOf}
 use Rattle.xc_gen.specs.declared.fault.GenFault.{GenFault}

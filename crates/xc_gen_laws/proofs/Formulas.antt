@@ -19,14 +19,14 @@ use Rattle.xc_base.proofs.Deciding.{gives_statements}
 use Rattle.xc_base.proofs.Naming.{same_bytes}
 use Rattle.xc_lattice.specs.LatticeFiles.{LatticeValue}
 use Rattle.xc_ctl.specs.Trees.{Signature}
-use Rattle.xc_ctl.specs.Written.{Written}
-use Rattle.xc_ctl.specs.FormulaFiles.{formula_format, tables_of}
-use Rattle.xc_ctl.specs.FormulaReading.{implication, implications, implications_up_to, sum, basic, nested, atom, names, one_name}
-use Rattle.xc_ctl.specs.FormulaReading as reading
-use Rattle.xc_ctl.specs.Reading.{formula_in}
-use Rattle.xc_ctl.specs.Deciding.{decide}
+use Rattle.xc_formula.specs.Written.{Written}
+use Rattle.xc_formula_text.specs.FormulaFiles.{formula_format, tables_of}
+use Rattle.xc_formula.specs.FormulaReading.{implication, implications, implications_up_to, sum, basic, nested, atom, names, one_name}
+use Rattle.xc_formula.specs.FormulaReading as reading
+use Rattle.xc_formula.specs.Reading.{formula_in}
+use Rattle.xc_formula_text.specs.Deciding.{decide}
 use Rattle.xc_ctl.specs.declared.kind.Kind.{Kind}
-use Rattle.xc_ctl.proofs.Deciding.{decides}
+use Rattle.xc_formula_text.proofs.Deciding.{decides}
 use Rattle.xc_gen.specs.Generated.{formulas_text}
 use Rattle.xc_gen_laws.proofs.Checks.{chain, diamond}
 

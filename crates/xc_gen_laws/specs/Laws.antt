@@ -2,7 +2,7 @@
 use Rattle.std.specs.Prelude.{◌≡◌, ℕ, true, List, None}
 use Rattle.xc_base.specs.Formats.{IsAccepted}
 use Rattle.xc_base.specs.Lines.{text_rows}
-use Rattle.xc_ctl.specs.FormulaFiles.{formula_format}
+use Rattle.xc_formula_text.specs.FormulaFiles.{formula_format}
 use Rattle.xc_ctl.specs.declared.kind.Kind.{Kind}
 use Rattle.xc_merge.specs.Faults.{merge_fault}
 use Rattle.xc_gen.specs.Generated.{formulas_text, is_size}

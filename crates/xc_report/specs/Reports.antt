@@ -12,7 +12,7 @@ use Rattle.xc_merge.specs.MergedFrames.{initials_of}
 use Rattle.xc_ctl.specs.Trees.{Signature}
 use Rattle.xc_ctl.specs.Tables.{node_at}
 use Rattle.xc_ctl.specs.TableTrees.{formula_of}
-use Rattle.xc_ctl.specs.Texts.{text_of}
+use Rattle.xc_formula_text.specs.Texts.{text_of}
 use Rattle.xc_ctl.specs.Rounds.{RoundsTable}
 use Rattle.xc_ctl.specs.declared.kind.Kind.{Kind}
 use Rattle.xc_ctl.specs.declared.kind.Kind.TheVariants.{Const, Atom, Not, And, Or, Ex, Eu, Au, Eg}

@@ -16,7 +16,8 @@ use crate::values::push_values;
 use std::alloc::Global;
 use xc_alg::Algebra;
 use xc_base::{Bytes, List, Memory};
-use xc_ctl::{Formula, Rounds, print};
+use xc_ctl::{Formula, Rounds};
+use xc_formula_text::print;
 use xc_machine::Machine;
 
 // Appends a formula with its number, written out.

@@ -9,15 +9,16 @@ use Rattle.xc_alg.specs.Products.{product}
 use Rattle.xc_base.specs.Formats.{Row, Excess, AreStatements, IsAccepted}
 use Rattle.xc_base.specs.Formats.AreStatements.{none, next}
 use Rattle.xc_base.specs.declared.fault.Stop.{Stop}
-use Rattle.xc_ctl.specs.FormulaFiles.{node_limit, text_limit, formula_limit, tree_excess, table_in, formula_format}
+use Rattle.xc_formula_text.specs.FormulaFiles.{node_limit, text_limit, formula_limit, tree_excess, table_in, formula_format}
 use Rattle.xc_ctl.specs.Formulas.{nodes_in}
 use Rattle.xc_ctl.specs.Tables.{is_table_in, size_of}
-use Rattle.xc_ctl.specs.Texts.{text_of}
-use Rattle.xc_ctl.specs.Trees.{Signature, Tree, resolved, sizes_of}
-use Rattle.xc_ctl.specs.Written.{Written}
+use Rattle.xc_formula_text.specs.Texts.{text_of}
+use Rattle.xc_ctl.specs.Trees.{Signature, Tree, sizes_of}
+use Rattle.xc_resolved.specs.Resolved.{resolved}
+use Rattle.xc_formula.specs.Written.{Written}
 use Rattle.xc_ctl.specs.declared.formula.Formulas.{Formulas}
 use Rattle.xc_ctl.specs.declared.kind.Kind.{Kind}
-use Rattle.xc_ctl.proofs.Verdicts.{accepted_are_tables}
+use Rattle.xc_formula_text.proofs.Verdicts.{accepted_are_tables}
 use Rattle.xc_merge.specs.Merges.{Merge, parts_of, names_of_parts}
 use Rattle.xc_course.specs.Given.{AreGiven}
 

@@ -13,7 +13,7 @@ use Rattle.xc_view.specs.declared.view.View.{View}
 use Rattle.xc_sigmap.specs.MapFiles.{map_format}
 use Rattle.xc_sigmap.specs.Maps.{value_of as map_of}
 use Rattle.xc_sigmap.specs.declared.sigmap.SigMap.{SigMap}
-use Rattle.xc_ctl.specs.FormulaFiles.{formula_format}
+use Rattle.xc_formula_text.specs.FormulaFiles.{formula_format}
 use Rattle.xc_ctl.specs.Formulas.{nodes_in}
 use Rattle.xc_ctl.specs.Trees.{Signature}
 use Rattle.xc_ctl.specs.declared.formula.Formulas.{Formulas}

@@ -3,7 +3,7 @@
 ghost use Rattle.std.specs.Prelude.{IfOk, IfErr};
 ghost use Rattle.xc_base.specs.Formats.{IsAccepted};
 ghost use Rattle.xc_base.specs.Lines.{rows_in};
-ghost use Rattle.xc_ctl.specs.FormulaFiles.{formula_format, IsStop};
+ghost use Rattle.xc_formula_text.specs.FormulaFiles.{formula_format, IsStop};
 ghost use Rattle.xc_ctl.specs.Formulas.{nodes_in};
 ghost use Rattle.xc_machine.specs.Machines.{merge_of};
 ghost use Rattle.xc_report.specs.Reports.{signature_of};
@@ -30,7 +30,7 @@ fn read_tables(alloc: Global, machine: &Machine, lines: &Lines) -> Result<Formul
 {
     formulas_fit(machine);
     let product = machine.product();
-    xc_ctl::read_formulas(
+    xc_formula_text::read_formulas(
         alloc,
         lines,
         machine.map().props(),

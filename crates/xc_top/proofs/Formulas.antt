@@ -5,10 +5,10 @@ use Rattle.xc_alg.specs.Products.{product}
 use Rattle.xc_merge.specs.Merges.{Merge, parts_of, names_of_parts}
 use Rattle.xc_theory.specs.Codes.{total}
 use Rattle.xc_base.specs.Formats.{Row, IsAccepted}
-use Rattle.xc_ctl.specs.FormulaFiles.{formula_format}
+use Rattle.xc_formula_text.specs.FormulaFiles.{formula_format}
 use Rattle.xc_ctl.specs.Trees.{sizes_of}
-use Rattle.xc_ctl.proofs.Verdicts.{accepted_are_tables}
-use Rattle.xc_ctl.proofs.Ranges.{tables_in_range}
+use Rattle.xc_formula_text.proofs.Verdicts.{accepted_are_tables}
+use Rattle.xc_formula_text.proofs.Ranges.{tables_in_range}
 use Rattle.xc_ctl.specs.Frames.{IsFrame}
 use Rattle.xc_ctl.specs.Tables.{is_table, is_table_in}
 use Rattle.xc_ctl.specs.declared.kind.Kind.{Kind}

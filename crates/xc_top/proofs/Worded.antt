@@ -19,7 +19,7 @@ use Rattle.xc_sigmap.specs.declared.parts.Use.{Use}
 use Rattle.xc_merge.specs.Faults.{merge_fault}
 use Rattle.xc_merge.specs.Merges.{Merge, Viewpoint}
 use Rattle.xc_merge.specs.declared.fault.MergeFault.{MergeFault}
-use Rattle.xc_ctl.specs.FormulaFiles.{formula_format}
+use Rattle.xc_formula_text.specs.FormulaFiles.{formula_format}
 use Rattle.xc_ctl.specs.declared.kind.Kind.{Kind}
 use Rattle.xc_report.proofs.Framed.{IsGood, accepted_is_sound}
 use Rattle.xc_report.proofs.Lattices.{IsNamed, AreNamed, named_more, file_is_named}

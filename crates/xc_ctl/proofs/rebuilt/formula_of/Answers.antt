@@ -1,5 +1,5 @@
 use Rattle.std.proofs.Common.{◌≡◌, IfOk, ◌∙◌, subst}
-use Rattle.xc_ctl.specs.Resolving.{tree_of}
+use Rattle.xc_ctl.specs.Formulas.{tree_of}
 use Rattle.xc_ctl.specs.Trees.{Tree}
 use Rattle.xc_ctl.proofs.TableTrees.{last_tree}
 use Rattle.xc_ctl.proofs.rebuilt.formula_of.Goals as goal

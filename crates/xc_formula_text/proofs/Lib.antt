@@ -1,0 +1,13 @@
+pub mod Deciding
+pub mod Facts
+pub mod NamedTrees
+pub mod OneLine
+pub mod PrintFacts
+pub mod PrintedLines
+pub mod Printing
+pub mod Ranges
+pub mod Reading
+pub mod Rereading
+pub mod Spelling
+pub mod Verdicts
+pub mod WrittenBack
