@@ -1,5 +1,5 @@
 use Rattle.std.proofs.Common.{◌≤◌, length}
-use Rattle.cases.proofs.changing.repeat.Given as goal
+use Rattle.case_files.proofs.changing.repeat.Given as goal
 
 -- nothing was taken away
 abbrev pub invariant-loop-number : goal.invariant-loop-number

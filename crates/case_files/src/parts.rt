@@ -1,7 +1,11 @@
+use crate::case::Case;
 use crate::fault::{Fault, Why};
-use crate::written::{WrittenCase, WrittenPart};
+use crate::keys::{list_at, only_keys, table_in};
+use crate::making::case_of;
+use crate::sources::Sources;
 use std::alloc::{AllocError, Global};
 use std::mem;
+use toml::Table;
 use toml::de::Error;
 
 /// The line that begins a case.
@@ -68,28 +72,50 @@ fn said(alloc: Global, error: &Error) -> Result<String, AllocError> {
     Ok(line)
 }
 
+/// The case that is written in the table of a part, if there is one.
+fn case_in(alloc: Global, sources: &Sources<'_>, table: &Table) -> Result<Option<Case>, Why> {
+    only_keys(alloc, table, &["case"])?;
+    let Some(values) = list_at(table, "case")? else {
+        return Ok(None);
+    };
+    match values.as_slice() {
+        [] => Ok(None),
+        [value] => Ok(Some(case_of(alloc, sources, table_in(value, "case")?)?)),
+        _ => Err(Why::SecondCase),
+    }
+}
+
 impl Part {
     /// The case that is written in this part, if there is one.
-    pub fn read(&self, alloc: Global, file: &str) -> Result<Option<WrittenCase>, Fault> {
-        match toml::from_str::<WrittenPart>(alloc, self.text.as_str()) {
-            Ok(mut part) => Ok(part.case.pop()),
+    pub fn read(
+        &self,
+        alloc: Global,
+        file: &str,
+        sources: &Sources<'_>,
+    ) -> Result<Option<Case>, Fault> {
+        match toml::table_from_str(alloc, self.text.as_str()) {
+            Ok(table) => match case_in(alloc, sources, &table) {
+                Ok(case) => Ok(case),
+                Err(why) => Err(fault(alloc, file, self.line, why)?),
+            },
             Err(error) if error.is_memory() => Err(Fault::OutOfMemory),
-            Err(error) => Err(Fault::Malformed {
-                file: String::from_str(alloc, file)?,
-                line: self
-                    .line
-                    .saturating_add(line_within(self.text.as_str(), &error)),
-                why: Why::Format(said(alloc, &error)?),
-            }),
+            Err(error) => {
+                let line = line_within(self.text.as_str(), &error).saturating_add(self.line);
+                let why = Why::Format(said(alloc, &error)?);
+                Err(fault(alloc, file, line, why)?)
+            }
         }
     }
+}
 
-    /// A fault of the case that is written in this part.
-    pub fn fault(&self, alloc: Global, file: &str, why: Why) -> Result<Fault, AllocError> {
-        Ok(Fault::Malformed {
+/// A fault of a file, on that line.
+fn fault(alloc: Global, file: &str, line: u64, why: Why) -> Result<Fault, AllocError> {
+    Ok(match why {
+        Why::OutOfMemory => Fault::OutOfMemory,
+        why => Fault::Malformed {
             file: String::from_str(alloc, file)?,
-            line: self.line,
+            line,
             why,
-        })
-    }
+        },
+    })
 }

@@ -1,8 +1,8 @@
 -- What a change makes of a text.
 use Rattle.std.specs.Prelude.{◌≡◌, ℕ, ◌+◌, ◌-◌, ◌<◌, ◌≤◌, Bool, nat_eq, ◌&&◌, ◌||◌, List, [], ◌∷◌, ◌++◌, length, take, drop, slice_index, slice_set, IsTrue}
 use Rattle.std.specs.List.{starts_with}
-use Rattle.cases.specs.declared.changing.Change.{Change}
-use Rattle.cases.specs.declared.changing.Change.TheVariants.{Replace, Insert, Append, Remove, Cut, Repeat, SetByte}
+use Rattle.case_files.specs.declared.changing.Change.{Change}
+use Rattle.case_files.specs.declared.changing.Change.TheVariants.{Replace, Insert, Append, Remove, Cut, Repeat, SetByte}
 
 -- a line begins at a place of a text; one ends there
 abbrev pub begins_line : List ℕ → ℕ → Bool

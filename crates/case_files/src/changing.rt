@@ -1,6 +1,6 @@
 ghost use Rattle.std.specs.Prelude.{◌≡◌, ℕ, ◌+◌, ◌<◌, ◌≤◌, ◌∷◌, ◌++◌, [], nat_eq, length, take, IfOk, OnOk, IsTrue, string_bytes, slice_set};
 ghost use Rattle.std.specs.List.{starts_with};
-ghost use Rattle.cases.specs.Changes.{begins_line, ends_line, is_line_at, IsOnlyLineAt, spliced, IsChanged};
+ghost use Rattle.case_files.specs.Changes.{begins_line, ends_line, is_line_at, IsOnlyLineAt, spliced, IsChanged};
 
 use crate::fault::Why;
 use std::alloc::{AllocError, Global};

@@ -1,6 +1,5 @@
 use std::alloc::{AllocError, AllocFailed};
 use thiserror::Error;
-use xc_base::Memory;
 
 /// Why a case can't be run.
 #[derive(Debug, Drop, Error)]
@@ -8,6 +7,14 @@ pub enum Why {
     /// What the reader of the format says.
     #[error("{0}")]
     Format(String),
+    #[error("there is no key {0:?} here")]
+    OtherKey(String),
+    #[error("the key {0:?} has to be there")]
+    NoKey(&'static str),
+    #[error("the value of {0:?} is not {1}")]
+    WrongType(&'static str, &'static str),
+    #[error("two cases stand below one line [[case]]")]
+    SecondCase,
     #[error("two cases have the name {0:?}")]
     SecondName(String),
     #[error("no status is called {0:?}")]
@@ -22,6 +29,8 @@ pub enum Why {
     SeveralOuts,
     #[error("err is given twice over")]
     SeveralErrs,
+    #[error("nothing is called {0:?} that fails in turn")]
+    NoTurn(String),
     #[error("a change of the file {0:?} is none of those that there are")]
     NoChange(String),
     #[error("the line {0:?} does not stand there")]
@@ -46,12 +55,6 @@ impl From<AllocError> for Why {
 
 impl<T: Drop> From<AllocFailed<T>> for Why {
     fn from(_e: AllocFailed<T>) -> Why {
-        Why::OutOfMemory
-    }
-}
-
-impl From<Memory> for Why {
-    fn from(_e: Memory) -> Why {
         Why::OutOfMemory
     }
 }

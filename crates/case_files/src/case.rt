@@ -1,13 +1,33 @@
 ghost use Rattle.std.specs.Prelude.{◌<◌};
 
-use crate::written::Each;
-use xc_top::Status;
-
 /// A file: its name and its bytes.
 #[derive(Debug, Drop)]
 pub struct NamedText {
     pub name: String,
     pub bytes: Vec<u8>,
+}
+
+/// How a run ends.
+#[derive(Clone, Copy, Debug, PartialEq, Eq)]
+pub enum Ending {
+    Done,
+    No,
+    Words,
+    Refused,
+    ReadFault,
+    WriteFault,
+    Memory,
+}
+
+/// What fails in turn, in further runs of a case.
+#[derive(Clone, Copy, Debug, Drop, PartialEq, Eq)]
+pub enum Each {
+    /// Each load.
+    Load,
+    /// Each put on out.
+    Put,
+    /// Each put on err.
+    ErrPut,
 }
 
 /// What is expected of the bytes on out or err.
@@ -24,7 +44,7 @@ pub enum Expectation {
 /// What is expected of a run.
 #[derive(Debug, Drop)]
 pub struct Expected {
-    pub status: Status,
+    pub ending: Ending,
     pub out: Expectation,
     pub err: Expectation,
     /// The names whose loads failed, in order.

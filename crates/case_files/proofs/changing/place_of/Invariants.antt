@@ -1,6 +1,6 @@
 use Rattle.std.proofs.Common.{◌≡◌, ℕ, ◌+◌, ◌<◌, ◌≤◌, length, MatchOption, IsTrue}
-use Rattle.cases.specs.Changes.{is_line_at}
-use Rattle.cases.proofs.changing.place_of.Given as goal
+use Rattle.case_files.specs.Changes.{is_line_at}
+use Rattle.case_files.proofs.changing.place_of.Given as goal
 
 -- where no line was found, none stands below; else that one does, and no other below
 abbrev pub invariant-loop-at : goal.invariant-loop-at
