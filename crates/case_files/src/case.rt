@@ -1,14 +1,14 @@
 ghost use Rattle.std.specs.Prelude.{◌<◌};
 
 /// A file: its name and its bytes.
-#[derive(Debug, Drop)]
+#[derive(Drop)]
 pub struct NamedText {
     pub name: String,
     pub bytes: Vec<u8>,
 }
 
 /// How a run ends.
-#[derive(Clone, Copy, Debug, PartialEq, Eq)]
+#[derive(Clone, Copy)]
 pub enum Ending {
     Done,
     No,
@@ -20,7 +20,7 @@ pub enum Ending {
 }
 
 /// What fails in turn, in further runs of a case.
-#[derive(Clone, Copy, Debug, Drop, PartialEq, Eq)]
+#[derive(Clone, Copy, Drop, PartialEq, Eq)]
 pub enum Each {
     /// Each load.
     Load,
@@ -31,7 +31,7 @@ pub enum Each {
 }
 
 /// What is expected of the bytes on out or err.
-#[derive(Debug, Drop)]
+#[derive(Drop)]
 pub enum Expectation {
     /// They are this text.
     Whole(Vec<u8>),
@@ -42,7 +42,7 @@ pub enum Expectation {
 }
 
 /// What is expected of a run.
-#[derive(Debug, Drop)]
+#[derive(Drop)]
 pub struct Expected {
     pub ending: Ending,
     pub out: Expectation,
@@ -54,7 +54,7 @@ pub struct Expected {
 }
 
 /// The numbers of the calls that fail, the first one being call 1.
-#[derive(Debug, Drop)]
+#[derive(Drop)]
 pub struct Failing {
     pub loads: Vec<u64>,
     pub puts: Vec<u64>,

@@ -2,7 +2,7 @@ ghost use Rattle.std.specs.Prelude.{◌≡◌, ℕ, ◌+◌, ◌<◌, ◌≤◌,
 ghost use Rattle.std.specs.List.{starts_with};
 ghost use Rattle.case_files.specs.Changes.{begins_line, ends_line, is_line_at, IsOnlyLineAt, spliced, IsChanged};
 
-use crate::fault::Why;
+use crate::fault::{NameFault, Why, name_fault};
 use std::alloc::{AllocError, Global};
 
 /// The byte that ends a line.
@@ -63,14 +63,14 @@ fn place_of(alloc: Global, text: &[u8], line: &str) -> Result<usize, Why>
     for at in 0..text.len() {
         if is_line_at(text, line.as_bytes(), at) {
             if found.is_some() {
-                return Err(Why::LineTwice(String::from_str(alloc, line)?));
+                return Err(name_fault(alloc, NameFault::LineTwice, line));
             }
             found = Some(at);
         }
     }
     match found {
         Some(at) => Ok(at),
-        None => Err(Why::LineAbsent(String::from_str(alloc, line)?)),
+        None => Err(name_fault(alloc, NameFault::LineAbsent, line)),
     }
 }
 
@@ -124,14 +124,7 @@ fn removed(alloc: Global, text: &[u8], line: &str) -> Result<Vec<u8>, Why>
 /// A text with a number in place of each `{n}`.
 fn numbered(alloc: Global, text: &str, number: u64) -> Result<String, AllocError> {
     let numeral = number.to_string(alloc)?;
-    let mut pieces = String::new(alloc);
-    for (index, piece) in text.split(NUMBER).enumerate() {
-        if index > 0 {
-            pieces.push_str(numeral.as_str())?;
-        }
-        pieces.push_str(piece)?;
-    }
-    Ok(pieces)
+    text.replace(alloc, NUMBER, numeral.as_str())
 }
 
 /// Adds a text at the end, so many times.

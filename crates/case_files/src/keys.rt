@@ -5,18 +5,32 @@ ghost use Rattle.toml.specs.Data.{as_str, as_integer, get_member};
 ghost use Rattle.toml.specs.View.{view, table_view};
 ghost use Rattle.case_files.specs.Keys.{IsRead};
 
-use crate::fault::Why;
+use crate::fault::{KeyFault, NameFault, Why, name_fault};
 use std::alloc::Global;
-use toml::value::{Array, Table, Value};
+use toml::{Table, Value};
 
 /// Refuses a table with a key that is none of these.
 pub(crate) fn only_keys(alloc: Global, table: &Table, keys: &[&str]) -> Result<(), Why> {
     for key in table.keys() {
-        if !keys.contains(&key.as_str()) {
-            return Err(Why::OtherKey(String::from_str(alloc, key.as_str())?));
+        if !(&*keys).contains(&key.as_str()) {
+            return Err(name_fault(alloc, NameFault::NoKey, key.as_str()));
         }
     }
     Ok(())
+}
+
+/// The one of these keys that stands in a table, if there is one. It refuses two of them.
+pub(crate) fn one_of(table: &Table, keys: &[&'static str]) -> Result<Option<&'static str>, Why> {
+    let mut found = None;
+    for key in keys {
+        if table.contains_key(*key) {
+            if found.is_some() {
+                return Err(Why::Key(KeyFault::Second, *key));
+            }
+            found = Some(*key);
+        }
+    }
+    Ok(found)
 }
 
 /// The text at a key, if the key is there.
@@ -26,7 +40,7 @@ pub(crate) fn text_at<'a>(table: &'a Table, key: &'static str) -> Result<Option<
     match table.get(key) {
         Some(value) => match value.as_str() {
             Some(text) => Ok(Some(text)),
-            None => Err(Why::WrongType(key, "a text")),
+            None => Err(Why::Key(KeyFault::NotText, key)),
         },
         None => Ok(None),
     }
@@ -38,7 +52,7 @@ pub(crate) fn needed_text<'a>(table: &'a Table, key: &'static str) -> Result<&'a
 {
     match text_at(table, key)? {
         Some(text) => Ok(text),
-        None => Err(Why::NoKey(key)),
+        None => Err(Why::Key(KeyFault::Absent, key)),
     }
 }
 
@@ -59,7 +73,7 @@ pub(crate) fn number_at(table: &Table, key: &'static str) -> Result<Option<u64>,
     match table.get(key) {
         Some(value) => match number_of(value) {
             Some(number) => Ok(Some(number)),
-            None => Err(Why::WrongType(key, "a number")),
+            None => Err(Why::Key(KeyFault::NotNumber, key)),
         },
         None => Ok(None),
     }
@@ -71,48 +85,42 @@ pub(crate) fn needed_number(table: &Table, key: &'static str) -> Result<u64, Why
 {
     match number_at(table, key)? {
         Some(number) => Ok(number),
-        None => Err(Why::NoKey(key)),
+        None => Err(Why::Key(KeyFault::Absent, key)),
     }
 }
 
-/// The list at a key, if the key is there.
-pub(crate) fn list_at<'a>(table: &'a Table, key: &'static str) -> Result<Option<&'a Array>, Why> {
+/// The list at a key, which is empty if the key is not there.
+pub(crate) fn list_at<'a>(table: &'a Table, key: &'static str) -> Result<&'a [Value], Why> {
     match table.get(key) {
-        Some(Value::Array(values)) => Ok(Some(values)),
-        Some(_) => Err(Why::WrongType(key, "a list")),
-        None => Ok(None),
+        Some(Value::Array(values)) => Ok(values.as_slice()),
+        Some(_) => Err(Why::Key(KeyFault::NotList, key)),
+        None => Ok(&[]),
     }
 }
 
-/// The texts at a key, if the key is there.
+/// The texts in the list at a key.
 pub(crate) fn texts_at(
     alloc: Global,
     table: &Table,
     key: &'static str,
-) -> Result<Option<Vec<String>>, Why> {
-    let Some(values) = list_at(table, key)? else {
-        return Ok(None);
-    };
+) -> Result<Vec<String>, Why> {
     let mut texts = Vec::new(alloc);
-    for value in values {
-        match value {
-            Value::String(text) => texts.push(String::from_str(alloc, text.as_str())?)?,
-            _ => return Err(Why::WrongType(key, "a list of texts")),
+    for value in list_at(table, key)? {
+        match value.as_str() {
+            Some(text) => texts.push(String::from_str(alloc, text)?)?,
+            None => return Err(Why::Key(KeyFault::NotTexts, key)),
         }
     }
-    Ok(Some(texts))
+    Ok(texts)
 }
 
-/// The numbers at a key, none if the key is not there.
+/// The numbers in the list at a key.
 pub(crate) fn numbers_at(alloc: Global, table: &Table, key: &'static str) -> Result<Vec<u64>, Why> {
     let mut numbers = Vec::new(alloc);
-    let Some(values) = list_at(table, key)? else {
-        return Ok(numbers);
-    };
-    for value in values {
+    for value in list_at(table, key)? {
         match number_of(value) {
             Some(number) => numbers.push(number)?,
-            None => return Err(Why::WrongType(key, "a list of numbers")),
+            None => return Err(Why::Key(KeyFault::NotNumbers, key)),
         }
     }
     Ok(numbers)
@@ -122,6 +130,6 @@ pub(crate) fn numbers_at(alloc: Global, table: &Table, key: &'static str) -> Res
 pub(crate) fn table_in<'a>(value: &'a Value, key: &'static str) -> Result<&'a Table, Why> {
     match value {
         Value::Table(table) => Ok(table),
-        _ => Err(Why::WrongType(key, "a list of tables")),
+        _ => Err(Why::Key(KeyFault::NotTables, key)),
     }
 }

@@ -12,6 +12,6 @@ mod written;
 
 pub use case::{Case, Each, Ending, Expectation, Expected, Failing, NamedText};
 pub use changing::{Change, changed};
-pub use fault::{Fault, Why};
+pub use fault::{CaseFault, Fault, KeyFault, NameFault, Why};
 pub use parts::{Part, parts_of};
 pub use sources::Sources;

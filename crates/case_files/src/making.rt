@@ -4,13 +4,13 @@ ghost use Rattle.std.specs.Prelude.{◌<◌, IfOk};
 
 use crate::case::{Case, Each, Ending, Expectation, Expected, Failing, NamedText};
 use crate::changing::changed;
-use crate::fault::Why;
+use crate::fault::{CaseFault, KeyFault, NameFault, Why, name_fault};
 use crate::keys::{
-    list_at, needed_text, number_at, numbers_at, only_keys, table_in, text_at, texts_at,
+    list_at, needed_text, number_at, numbers_at, one_of, only_keys, table_in, texts_at,
 };
 use crate::sources::{Sources, example_of, find, out_of};
 use crate::written::change_of;
-use std::alloc::{AllocError, Global};
+use std::alloc::Global;
 use toml::Table;
 
 /// How many bytes a sink takes at a time where a case does not say it.
@@ -40,9 +40,22 @@ const CASE_KEYS: [&str; 17] = [
 /// The keys of a file.
 const FILE_KEYS: [&str; 5] = ["name", "text", "example", "out_of", "changes"];
 
-/// The bytes of a text.
-fn bytes_of(alloc: Global, text: &str) -> Result<Vec<u8>, AllocError> {
-    Vec::from_slice(alloc, text.as_bytes())
+/// The keys of which one says where the text of a file comes from.
+const SOURCE_KEYS: [&str; 3] = ["text", "example", "out_of"];
+
+/// The keys of which one says what is expected of out.
+const OUT_KEYS: [&str; 4] = ["out", "out_file", "out_part_of", "out_begins_with"];
+
+/// The keys of which one says what is expected of err.
+const ERR_KEYS: [&str; 2] = ["err", "err_part_of"];
+
+/// The bytes that a key and its text say: the text, or those of the file or the case of that name.
+fn bytes_said(alloc: Global, sources: &Sources<'_>, key: &str, text: &str) -> Result<Vec<u8>, Why> {
+    match key {
+        "example" | "out_file" => example_of(alloc, sources, text),
+        "out_of" => out_of(alloc, sources, text),
+        _ => Ok(Vec::from_slice(alloc, text.as_bytes())?),
+    }
 }
 
 /// The text that a file has before its changes.
@@ -52,40 +65,42 @@ fn source_of(
     table: &Table,
     name: &str,
 ) -> Result<Vec<u8>, Why> {
-    let text = text_at(table, "text")?;
-    let example = text_at(table, "example")?;
-    let earlier = text_at(table, "out_of")?;
-    match (text, example, earlier) {
-        (Some(text), None, None) => Ok(bytes_of(alloc, text)?),
-        (None, Some(example), None) => example_of(alloc, sources, example),
-        (None, None, Some(earlier)) => out_of(alloc, sources, earlier),
-        (None, None, None) => example_of(alloc, sources, name),
-        _ => Err(Why::SeveralSources(String::from_str(alloc, name)?)),
+    match one_of(table, &SOURCE_KEYS)? {
+        Some(key) => bytes_said(alloc, sources, key, needed_text(table, key)?),
+        None => example_of(alloc, sources, name),
     }
+}
+
+/// The bytes of a file with all its changes.
+fn changed_bytes(
+    alloc: Global,
+    sources: &Sources<'_>,
+    table: &Table,
+    name: &str,
+) -> Result<Vec<u8>, Why> {
+    let mut bytes = source_of(alloc, sources, table, name)?;
+    for value in list_at(table, "changes")? {
+        let change = change_of(alloc, table_in(value, "changes")?, name)?;
+        bytes = changed(alloc, bytes, change)?;
+    }
+    Ok(bytes)
 }
 
 /// A file with all its changes.
 fn file_of(alloc: Global, sources: &Sources<'_>, table: &Table) -> Result<NamedText, Why> {
     only_keys(alloc, table, &FILE_KEYS)?;
     let name = needed_text(table, "name")?;
-    let mut bytes = source_of(alloc, sources, table, name)?;
-    if let Some(changes) = list_at(table, "changes")? {
-        for value in changes {
-            let change = change_of(alloc, table_in(value, "changes")?, name)?;
-            bytes = changed(alloc, bytes, change)?;
-        }
-    }
-    let name = String::from_str(alloc, name)?;
-    Ok(NamedText { name, bytes })
+    Ok(NamedText {
+        bytes: changed_bytes(alloc, sources, table, name)?,
+        name: String::from_str(alloc, name)?,
+    })
 }
 
 /// The files of a case.
 fn files_of(alloc: Global, sources: &Sources<'_>, table: &Table) -> Result<Vec<NamedText>, Why> {
     let mut files = Vec::new(alloc);
-    if let Some(values) = list_at(table, "file")? {
-        for value in values {
-            files.push(file_of(alloc, sources, table_in(value, "file")?)?)?;
-        }
+    for value in list_at(table, "file")? {
+        files.push(file_of(alloc, sources, table_in(value, "file")?)?)?;
     }
     Ok(files)
 }
@@ -117,55 +132,62 @@ fn each_of(word: &str) -> Option<Each> {
 /// What fails in turn.
 fn turns_of(alloc: Global, table: &Table) -> Result<Vec<Each>, Why> {
     let mut turns = Vec::new(alloc);
-    if let Some(words) = texts_at(alloc, table, "each")? {
-        for word in words {
-            match each_of(word.as_str()) {
-                Some(each) => turns.push(each)?,
-                None => return Err(Why::NoTurn(word)),
-            }
+    for value in list_at(table, "each")? {
+        let Some(word) = value.as_str() else {
+            return Err(Why::Key(KeyFault::NotTexts, "each"));
+        };
+        match each_of(word) {
+            Some(each) => turns.push(each)?,
+            None => return Err(name_fault(alloc, NameFault::NoTurn, word)),
         }
     }
     Ok(turns)
 }
 
-/// What is expected of out.
-fn out_expected(alloc: Global, sources: &Sources<'_>, table: &Table) -> Result<Expectation, Why> {
-    let whole = text_at(table, "out")?;
-    let file = text_at(table, "out_file")?;
-    let part = text_at(table, "out_part_of")?;
-    let beginning = text_at(table, "out_begins_with")?;
-    match (whole, file, part, beginning) {
-        (None, None, None, None) => Ok(Expectation::Whole(Vec::new(alloc))),
-        (Some(text), None, None, None) => Ok(Expectation::Whole(bytes_of(alloc, text)?)),
-        (None, Some(name), None, None) => Ok(Expectation::Whole(example_of(alloc, sources, name)?)),
-        (None, None, Some(text), None) => Ok(Expectation::PartOf(bytes_of(alloc, text)?)),
-        (None, None, None, Some(text)) => Ok(Expectation::BeginsWith(bytes_of(alloc, text)?)),
-        _ => Err(Why::SeveralOuts),
+/// What is expected of out or err, of which these keys speak.
+fn expectation_of(
+    alloc: Global,
+    sources: &Sources<'_>,
+    table: &Table,
+    keys: &[&'static str],
+) -> Result<Expectation, Why> {
+    let Some(key) = one_of(table, keys)? else {
+        return Ok(Expectation::Whole(Vec::new(alloc)));
+    };
+    let bytes = bytes_said(alloc, sources, key, needed_text(table, key)?)?;
+    Ok(match key {
+        "out_part_of" | "err_part_of" => Expectation::PartOf(bytes),
+        "out_begins_with" => Expectation::BeginsWith(bytes),
+        _ => Expectation::Whole(bytes),
+    })
+}
+
+/// How a run is expected to end.
+fn needed_ending(alloc: Global, table: &Table) -> Result<Ending, Why> {
+    let word = needed_text(table, "status")?;
+    match ending_of(word) {
+        Some(ending) => Ok(ending),
+        None => Err(name_fault(alloc, NameFault::NoStatus, word)),
     }
 }
 
-/// What is expected of err.
-fn err_expected(alloc: Global, table: &Table) -> Result<Expectation, Why> {
-    match (text_at(table, "err")?, text_at(table, "err_part_of")?) {
-        (None, None) => Ok(Expectation::Whole(Vec::new(alloc))),
-        (Some(text), None) => Ok(Expectation::Whole(bytes_of(alloc, text)?)),
-        (None, Some(text)) => Ok(Expectation::PartOf(bytes_of(alloc, text)?)),
-        _ => Err(Why::SeveralErrs),
+/// The names of all loads, if the case says them.
+fn loads_of(alloc: Global, table: &Table) -> Result<Option<Vec<String>>, Why> {
+    if table.contains_key("loads") {
+        Ok(Some(texts_at(alloc, table, "loads")?))
+    } else {
+        Ok(None)
     }
 }
 
 /// What is expected of a run.
 fn expected_of(alloc: Global, sources: &Sources<'_>, table: &Table) -> Result<Expected, Why> {
-    let status = needed_text(table, "status")?;
-    let Some(ending) = ending_of(status) else {
-        return Err(Why::NoStatus(String::from_str(alloc, status)?));
-    };
     Ok(Expected {
-        ending,
-        out: out_expected(alloc, sources, table)?,
-        err: err_expected(alloc, table)?,
-        failed: texts_at(alloc, table, "failed")?.unwrap_or(Vec::new(alloc)),
-        loads: texts_at(alloc, table, "loads")?,
+        ending: needed_ending(alloc, table)?,
+        out: expectation_of(alloc, sources, table, &OUT_KEYS)?,
+        err: expectation_of(alloc, sources, table, &ERR_KEYS)?,
+        failed: texts_at(alloc, table, "failed")?,
+        loads: loads_of(alloc, table)?,
     })
 }
 
@@ -184,10 +206,10 @@ fn piece_of(table: &Table) -> Result<u32, Why>
 {
     match number_at(table, "piece")? {
         None => Ok(PIECE),
-        Some(0) => Err(Why::NoPiece),
+        Some(0) => Err(Why::Case(CaseFault::NoPiece)),
         Some(piece) => match u32::try_from(piece) {
             Ok(piece) => Ok(piece),
-            Err(_) => Err(Why::WrongType("piece", "a number below 4294967296")),
+            Err(_) => Err(Why::Key(KeyFault::TooGreat, "piece")),
         },
     }
 }
@@ -201,28 +223,40 @@ fn has_turns(each: &[Each], expected: &Expected) -> bool {
     each.is_empty() || (is_whole && (expected.loads.is_some() || !each.contains(&Each::Load)))
 }
 
+/// The name of a case, which no case so far has.
+fn new_name(alloc: Global, sources: &Sources<'_>, table: &Table) -> Result<String, Why> {
+    let name = needed_text(table, "name")?;
+    if find(sources.outs, name).is_some() {
+        return Err(name_fault(alloc, NameFault::Twice, name));
+    }
+    Ok(String::from_str(alloc, name)?)
+}
+
+/// What fails in turn in a case of which that is expected.
+fn known_turns(alloc: Global, table: &Table, expected: &Expected) -> Result<Vec<Each>, Why> {
+    let each = turns_of(alloc, table)?;
+    if has_turns(each.as_slice(), expected) {
+        Ok(each)
+    } else {
+        Err(Why::Case(CaseFault::TurnsNeedMore))
+    }
+}
+
 /// The case that is written in a table, with the texts of its files.
 pub(crate) fn case_of(alloc: Global, sources: &Sources<'_>, table: &Table) -> Result<Case, Why> {
     only_keys(alloc, table, &CASE_KEYS)?;
-    let name = String::from_str(alloc, needed_text(table, "name")?)?;
-    if find(sources.outs, name.as_str()).is_some() {
-        return Err(Why::SecondName(name));
+    if !table.contains_key("words") {
+        return Err(Why::Key(KeyFault::Absent, "words"));
     }
-    let Some(words) = texts_at(alloc, table, "words")? else {
-        return Err(Why::NoKey("words"));
-    };
+    let piece = piece_of(table)? as usize;
     let expected = expected_of(alloc, sources, table)?;
-    let each = turns_of(alloc, table)?;
-    if !has_turns(each.as_slice(), &expected) {
-        return Err(Why::TurnsNeedMore);
-    }
     Ok(Case {
-        name,
-        words,
+        each: known_turns(alloc, table, &expected)?,
+        name: new_name(alloc, sources, table)?,
+        words: texts_at(alloc, table, "words")?,
         files: files_of(alloc, sources, table)?,
         failing: failing_of(alloc, table)?,
-        each,
-        piece: piece_of(table)? as usize,
+        piece,
         expected,
     })
 }

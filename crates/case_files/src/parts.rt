@@ -1,5 +1,5 @@
 use crate::case::Case;
-use crate::fault::{Fault, Why};
+use crate::fault::{CaseFault, Fault, Why};
 use crate::keys::{list_at, only_keys, table_in};
 use crate::making::case_of;
 use crate::sources::Sources;
@@ -75,13 +75,10 @@ fn said(alloc: Global, error: &Error) -> Result<String, AllocError> {
 /// The case that is written in the table of a part, if there is one.
 fn case_in(alloc: Global, sources: &Sources<'_>, table: &Table) -> Result<Option<Case>, Why> {
     only_keys(alloc, table, &["case"])?;
-    let Some(values) = list_at(table, "case")? else {
-        return Ok(None);
-    };
-    match values.as_slice() {
+    match list_at(table, "case")? {
         [] => Ok(None),
         [value] => Ok(Some(case_of(alloc, sources, table_in(value, "case")?)?)),
-        _ => Err(Why::SecondCase),
+        _ => Err(Why::Case(CaseFault::Second)),
     }
 }
 

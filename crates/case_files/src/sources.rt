@@ -4,7 +4,7 @@ ghost use Rattle.std.specs.Prelude.{◌≡◌, Some, option_map, IfOk};
 ghost use Rattle.case_files.specs.Sources.{text_called};
 
 use crate::case::NamedText;
-use crate::fault::Why;
+use crate::fault::{NameFault, Why, name_fault};
 use std::alloc::Global;
 
 /// The texts that cases take theirs from.
@@ -34,7 +34,7 @@ pub(crate) fn example_of(alloc: Global, sources: &Sources<'_>, name: &str) -> Re
 {
     match find(sources.examples, name) {
         Some(bytes) => Ok(Vec::from_slice(alloc, bytes)?),
-        None => Err(Why::NoExample(String::from_str(alloc, name)?)),
+        None => Err(name_fault(alloc, NameFault::NoExample, name)),
     }
 }
 
@@ -44,6 +44,6 @@ pub(crate) fn out_of(alloc: Global, sources: &Sources<'_>, name: &str) -> Result
 {
     match find(sources.outs, name) {
         Some(bytes) => Ok(Vec::from_slice(alloc, bytes)?),
-        None => Err(Why::NoEarlierCase(String::from_str(alloc, name)?)),
+        None => Err(name_fault(alloc, NameFault::NoEarlierCase, name)),
     }
 }

@@ -1,11 +1,12 @@
 //! How a change is written.
 
-ghost use Rattle.std.specs.Prelude.{IfOk, IfSome};
+ghost use Rattle.std.specs.Prelude.{◌≡◌, Some, pos, option_and_then, IfOk, IfSome};
+ghost use Rattle.toml.specs.Data.{as_integer, get_member};
 ghost use Rattle.toml.specs.View.{table_view};
 ghost use Rattle.case_files.specs.Written.{IsWritten};
 
 use crate::changing::Change;
-use crate::fault::Why;
+use crate::fault::{KeyFault, NameFault, Why, name_fault};
 use crate::keys::{needed_number, needed_text, number_at, only_keys, text_at};
 use std::alloc::Global;
 use toml::Table;
@@ -14,6 +15,16 @@ use toml::Table;
 const CHANGE_KEYS: [&str; 10] = [
     "replace", "with", "add", "after", "remove", "cut", "repeat", "times", "byte", "at",
 ];
+
+/// The byte at a key.
+fn needed_byte(table: &Table, key: &'static str) -> Result<u8, Why>
+    ensures { IfOk result (λ byte. option_and_then as_integer (get_member key.now (table_view table.now)) ≡ Some (pos byte)) }
+{
+    match u8::try_from(needed_number(table, key)?) {
+        Ok(byte) => Ok(byte),
+        Err(_) => Err(Why::Key(KeyFault::TooGreat, key)),
+    }
+}
 
 /// The change of a line, if it is one.
 fn line_change(table: &Table) -> Result<Option<Change<'_>>, Why>
@@ -46,15 +57,21 @@ fn byte_change(table: &Table) -> Result<Option<Change<'_>>, Why>
         let times = needed_number(table, "times")?;
         return Ok(Some(Change::Repeat { text, times }));
     }
-    match number_at(table, "byte")? {
-        Some(number) => match u8::try_from(number) {
-            Ok(byte) => {
-                let at = needed_number(table, "at")?;
-                Ok(Some(Change::SetByte { byte, at }))
-            }
-            Err(_) => Err(Why::WrongType("byte", "a byte")),
-        },
-        None => Ok(None),
+    if !table.contains_key("byte") {
+        return Ok(None);
+    }
+    let byte = needed_byte(table, "byte")?;
+    let at = needed_number(table, "at")?;
+    Ok(Some(Change::SetByte { byte, at }))
+}
+
+/// The change that is written in a table, if it is one.
+fn written_change(table: &Table) -> Result<Option<Change<'_>>, Why>
+    ensures { IfOk result (λ found. IfSome found (λ change. IsWritten change (table_view table.now))) }
+{
+    match line_change(table)? {
+        Some(change) => Ok(Some(change)),
+        None => byte_change(table),
     }
 }
 
@@ -66,27 +83,13 @@ fn count_keys(change: &Change<'_>) -> usize {
     }
 }
 
-/// The change of a file that is written in a table.
-fn found_change<'a>(alloc: Global, table: &'a Table, file: &str) -> Result<Change<'a>, Why>
-    ensures { IfOk result (λ change. IsWritten change (table_view table.now)) }
-{
-    if let Some(change) = line_change(table)? {
-        return Ok(change);
-    }
-    match byte_change(table)? {
-        Some(change) => Ok(change),
-        None => Err(Why::NoChange(String::from_str(alloc, file)?)),
-    }
-}
-
 /// The change of a file that is written in a table, which has no other keys.
 pub(crate) fn change_of<'a>(alloc: Global, table: &'a Table, file: &str) -> Result<Change<'a>, Why>
     ensures { IfOk result (λ change. IsWritten change (table_view table.now)) }
 {
     only_keys(alloc, table, &CHANGE_KEYS)?;
-    let change = found_change(alloc, table, file)?;
-    if count_keys(&change) != table.len() {
-        return Err(Why::NoChange(String::from_str(alloc, file)?));
+    match written_change(table)? {
+        Some(change) if count_keys(&change) == table.len() => Ok(change),
+        _ => Err(name_fault(alloc, NameFault::NoChange, file)),
     }
-    Ok(change)
 }
