@@ -1,4 +1,3 @@
-pub mod Changes
 pub mod Expectations
 pub mod Tallies
 pub mod Verdicts

@@ -1,7 +1,7 @@
 -- What came of a case.
 use Rattle.std.specs.Prelude.{Bool, true, false, ⊤}
 use Rattle.cases.specs.Expectations.{IsAsExpected}
-use Rattle.cases.specs.declared.case.Expected.{Expected}
+use Rattle.case_files.specs.declared.case.Expected.{Expected}
 use Rattle.cases.specs.declared.judging.Verdict.{Verdict}
 use Rattle.cases.specs.declared.judging.Verdict.TheVariants.{Passed, Differs}
 

@@ -1,8 +1,8 @@
 ghost use Rattle.std.specs.Prelude.{◌≡◌, ◌↔◌, IsTrue, IsNone, map, string_bytes};
 ghost use Rattle.cases.specs.Expectations.{Meets, IsAsExpected};
 
-use crate::case::{Expectation, Expected};
-use crate::running::Ran;
+use crate::running::{Ran, status_of};
+use case_files::{Expectation, Expected};
 
 /// What of a run is not as expected.
 #[derive(Clone, Copy, Debug, PartialEq, Eq)]
@@ -39,7 +39,7 @@ fn are_same(left: &[String], right: &[String]) -> bool
 pub fn first_difference(expected: &Expected, ran: &Ran) -> Option<Part>
     ensures { IsNone result ↔ IsAsExpected expected.now ran.now }
 {
-    if ran.status != expected.status {
+    if ran.status != status_of(expected.ending) {
         return Some(Part::Status);
     }
     if !meets(&expected.out, ran.out.bytes()) {

@@ -1,7 +1,6 @@
 //! The files of a folder.
 
-use crate::case::NamedText;
-use crate::fault::Fault;
+use case_files::{Fault, NamedText};
 use std::alloc::{AllocError, Global};
 use std::rt::Files;
 use std::{fs, io};

@@ -1,10 +1,9 @@
 ghost use Rattle.std.specs.Prelude.{IfOk};
 ghost use Rattle.cases.specs.Verdicts.{IsJust};
 
-use crate::case::{Case, NamedText};
 use crate::running::{Ran, Turn, run_once};
 use crate::turns::{difference, err_puts_in_turn, loads_in_turn, puts_in_turn};
-use crate::written::Each;
+use case_files::{Case, Each, NamedText};
 use std::alloc::Global;
 use xc_base::Memory;
 

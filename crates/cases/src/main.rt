@@ -1,23 +1,17 @@
 //! Runs the program on cases that are data, and compares what it answers with what is expected of it.
 #![tactic(auto)]
 
-mod case;
-mod changing;
 mod comparing;
-mod fault;
 mod folder;
 mod judging;
-mod making;
-mod parts;
 mod running;
 mod suite;
 mod tally;
 mod telling;
 mod turns;
 mod watched;
-mod written;
 
-use fault::Fault;
+use case_files::Fault;
 use folder::files_in;
 use std::io;
 use std::process::ExitCode;

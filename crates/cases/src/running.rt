@@ -1,7 +1,8 @@
-ghost use Rattle.std.specs.Prelude.{◌<◌};
+ghost use Rattle.std.specs.Prelude.{◌≡◌, ◌<◌};
+ghost use Rattle.cases.specs.Expectations.{status_of};
 
-use crate::case::{Case, NamedText};
 use crate::watched::WatchedShelf;
+use case_files::{Case, Ending, NamedText};
 use std::alloc::Global;
 use xc_base::{Memory, MemoryShelf, MemorySink};
 use xc_top::{Status, run};
@@ -24,6 +25,21 @@ pub struct Ran {
     /// The names of all loads in order, and of those that failed.
     pub loads: Vec<String>,
     pub failed: Vec<String>,
+}
+
+/// The status with which such a run ends.
+pub fn status_of(ending: Ending) -> Status
+    ensures { result ≡ status_of ending }
+{
+    match ending {
+        Ending::Done => Status::Done,
+        Ending::No => Status::No,
+        Ending::Words => Status::Words,
+        Ending::Refused => Status::Refused,
+        Ending::ReadFault => Status::ReadFault,
+        Ending::WriteFault => Status::WriteFault,
+        Ending::Memory => Status::Memory,
+    }
 }
 
 /// The shelf of a case: all example files, and before them the files of the case.

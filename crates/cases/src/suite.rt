@@ -1,12 +1,8 @@
 ghost use Rattle.std.specs.Prelude.{◌≡◌, OnOk};
 
-use crate::case::{Case, NamedText};
-use crate::fault::{Fault, Why};
 use crate::judging::{Verdict, judge};
-use crate::making::{Sources, case_of};
-use crate::parts::parts_of;
 use crate::tally::Tally;
-use crate::written::WrittenCase;
+use case_files::{Case, Fault, NamedText, Sources, parts_of};
 use std::alloc::{AllocError, Global};
 use xc_base::Memory;
 
@@ -48,18 +44,6 @@ impl Suite {
         self.report.as_str()
     }
 
-    /// The case that is written.
-    fn case_of(&self, alloc: Global, written: WrittenCase) -> Result<Case, Why> {
-        if self.outs.iter().any(|out| out.name == written.name) {
-            return Err(Why::SecondName(written.name));
-        }
-        let sources = Sources {
-            examples: self.examples.as_slice(),
-            outs: self.outs.as_slice(),
-        };
-        case_of(alloc, &sources, written)
-    }
-
     /// Counts a case, keeps its out, and reports how it differs.
     fn settle(
         &mut self,
@@ -96,12 +80,12 @@ impl Suite {
     /// Runs the cases of a file, one after the other.
     pub fn run_file(&mut self, alloc: Global, file: &str, text: &str) -> Result<(), Fault> {
         for part in parts_of(alloc, text)? {
-            let Some(written) = part.read(alloc, file)? else {
-                continue;
+            let sources = Sources {
+                examples: self.examples.as_slice(),
+                outs: self.outs.as_slice(),
             };
-            let case = match self.case_of(alloc, written) {
-                Ok(case) => case,
-                Err(why) => return Err(part.fault(alloc, file, why)?),
+            let Some(case) = part.read(alloc, file, &sources)? else {
+                continue;
             };
             if self.run_case(alloc, file, case).is_err() {
                 return Err(Fault::OutOfMemory);

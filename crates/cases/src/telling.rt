@@ -1,8 +1,8 @@
 //! What is told of a run that is not as expected.
 
-use crate::case::{Expectation, Expected};
 use crate::comparing::Part;
-use crate::running::{Ran, Turn};
+use crate::running::{Ran, Turn, status_of};
+use case_files::{Expectation, Expected};
 use std::alloc::{AllocError, Global};
 use std::fmt;
 use std::fmt::Write;
@@ -92,7 +92,7 @@ pub fn told(
 ) -> Result<String, AllocError> {
     let mut told = String::new(alloc);
     writeln!(told, "  {turn}{part} is not as expected")?;
-    let (wanted, found) = (word_of(expected.status), word_of(ran.status));
+    let (wanted, found) = (word_of(status_of(expected.ending)), word_of(ran.status));
     writeln!(told, "    status: expected {wanted}, got {found}")?;
     match part {
         Part::Out => tell_text(alloc, &mut told, &expected.out, ran.out.bytes())?,

@@ -3,13 +3,12 @@
 ghost use Rattle.std.specs.Prelude.{◌↔◌, IfOk, IsNone};
 ghost use Rattle.cases.specs.Expectations.{IsAsExpected};
 
-use crate::case::{Case, Expectation, Expected, NamedText};
 use crate::comparing::first_difference;
-use crate::running::{Ran, Turn, run_once};
+use crate::running::{Ran, Turn, run_once, status_of};
 use crate::telling::told;
+use case_files::{Case, Ending, Expectation, Expected, NamedText};
 use std::alloc::{AllocError, Global};
 use xc_base::Memory;
-use xc_top::Status;
 
 /// How many calls are tried in turn.
 const MOST_CALLS: u64 = 100_000;
@@ -58,7 +57,7 @@ fn copies_of(alloc: Global, names: &[String]) -> Result<Vec<String>, AllocError>
 /// What is expected where a put on out fails.
 fn after_put(alloc: Global, expected: &Expected) -> Result<Expected, AllocError> {
     Ok(Expected {
-        status: Status::WriteFault,
+        ending: Ending::WriteFault,
         out: Expectation::PartOf(Vec::from_slice(alloc, text_of(&expected.out))?),
         err: Expectation::Whole(bytes_of(alloc, "fault write\n")?),
         failed: Vec::new(alloc),
@@ -69,7 +68,7 @@ fn after_put(alloc: Global, expected: &Expected) -> Result<Expected, AllocError>
 /// What is expected where a put on err fails: all but err as without the failure.
 fn after_err_put(alloc: Global, expected: &Expected) -> Result<Expected, AllocError> {
     Ok(Expected {
-        status: expected.status,
+        ending: expected.ending,
         out: Expectation::Whole(Vec::from_slice(alloc, text_of(&expected.out))?),
         err: Expectation::PartOf(Vec::from_slice(alloc, text_of(&expected.err))?),
         failed: copies_of(alloc, expected.failed.as_slice())?,
@@ -83,7 +82,7 @@ fn after_load(alloc: Global, loads: &[String], name: &String) -> Result<Expected
     let mut failed = Vec::new(alloc);
     failed.push(name.clone()?)?;
     Ok(Expected {
-        status: Status::ReadFault,
+        ending: Ending::ReadFault,
         out: Expectation::Whole(Vec::new(alloc)),
         err: Expectation::Whole(bytes_of(alloc, line.as_str())?),
         failed,
@@ -101,7 +100,7 @@ pub fn puts_in_turn(
     for call in 1..=MOST_CALLS {
         let turn = Turn::Put(call);
         let ran = run_once(alloc, examples, case, turn)?;
-        if ran.status == case.expected.status {
+        if ran.status == status_of(case.expected.ending) {
             return Ok(difference(alloc, turn, &case.expected, &ran)?);
         }
         if let Some(told) = difference(alloc, turn, &expected, &ran)? {

@@ -13,7 +13,7 @@ use Rattle.xc_base.specs.Text.{lines_of, tokens_from, rows_from}
 use Rattle.xc_base.proofs.Deciding.{gives_statements}
 use Rattle.xc_order.specs.Pairs.{IsListed}
 use Rattle.xc_order.specs.declared.order.Pair.{Pair}
-use Rattle.xc_lattice.specs.Breaks.{tuples, first_tuple, first_break}
+use Rattle.xc_laws.specs.Breaks.{tuples, first_tuple, first_break}
 use Rattle.xc_lattice.specs.Deciding.{decide}
 use Rattle.xc_lattice.specs.LatticeFiles.{lattice_format, IsVerdict}
 use Rattle.xc_lattice.specs.LatticeFiles.Verdict.{Lawful}

@@ -2,8 +2,8 @@
 use Rattle.std.proofs.Common.{◌≡◌, ℕ, ◌<◌, List, length, get_or, Option, sym, ◌∙◌, ap, subst, arith}
 use Rattle.std.proofs.lemmas.List.{get_or_default}
 use Rattle.xc_theory.specs.Lattices.{LatticeData, size, IsWellShaped}
-use Rattle.xc_lattice.specs.declared.breaks.Break.{Break}
-use Rattle.xc_lattice.specs.Breaks.{first_break}
+use Rattle.xc_laws.specs.declared.breaks.Break.{Break}
+use Rattle.xc_laws.specs.Breaks.{first_break}
 
 pub negations_in_range : (l : LatticeData) → IsWellShaped l → (k : ℕ) (d : ℕ) → k < length l.negations → get_or l.negations k d < size l
 negations_in_range l h k d within =

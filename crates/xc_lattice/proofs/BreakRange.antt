@@ -2,9 +2,9 @@
 use Rattle.std.proofs.Common.{◌≡◌, ℕ, zero, suc, ◌+◌, ◌<◌, Bool, true, false, cond, List, [], ◌∷◌, ◌++◌, Option, Some, None, length, map, get_or, ◌⊎◌, inl, inr, refl, subst, ap, arith}
 use Rattle.std.specs.List.{find, flat_map, range_with_len, All}
 use Rattle.xc_theory.specs.Lattices.{LatticeData, size}
-use Rattle.xc_lattice.specs.declared.breaks.Break.{Break}
-use Rattle.xc_lattice.specs.declared.law.Law.{Law}
-use Rattle.xc_lattice.specs.Breaks.{laws, arity, tuples, breaks, first_tuple, or_next, first_of, first_break}
+use Rattle.xc_laws.specs.declared.breaks.Break.{Break}
+use Rattle.xc_laws.specs.declared.law.Law.{Law}
+use Rattle.xc_laws.specs.Breaks.{laws, arity, tuples, breaks, first_tuple, or_next, first_of, first_break}
 use Rattle.xc_lattice.proofs.Drafts.{Has}
 
 -- each number of the list is below n

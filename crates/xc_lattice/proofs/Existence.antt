@@ -5,9 +5,9 @@ use Rattle.xc_base.specs.Formats.{Row, IsAccepted}
 use Rattle.xc_base.specs.Judging.{AreWhole}
 use Rattle.xc_base.specs.Deciding.{file_of}
 use Rattle.xc_base.proofs.Deciding.{gives_statements, gives_faults}
-use Rattle.xc_lattice.specs.declared.breaks.Break.{Break}
+use Rattle.xc_laws.specs.declared.breaks.Break.{Break}
 use Rattle.xc_lattice.specs.declared.statement.Statement.{Statement}
-use Rattle.xc_lattice.specs.Breaks.{first_break}
+use Rattle.xc_laws.specs.Breaks.{first_break}
 use Rattle.xc_lattice.specs.LatticeFiles.{LatticeValue, lattice_format, Verdict, IsVerdict}
 use Rattle.xc_base.specs.Names.{name_at}
 use Rattle.xc_lattice.specs.LatticeFiles.Verdict.{Faulty, Unlawful, Lawful}

@@ -13,10 +13,10 @@ use Rattle.xc_base.specs.Formats.{Row}
 use Rattle.xc_base.specs.Formats.AreStatements.{none}
 use Rattle.xc_base.specs.Formats.IsFirstFault.{lacking}
 use Rattle.xc_base.specs.Deciding.{line_of, statements_of, file_of, statement_fault}
-use Rattle.xc_lattice.specs.declared.law.Law.TheVariants.{Antisymmetry, Meet, Join, Distributive, Involution, Antitone}
+use Rattle.xc_laws.specs.declared.law.Law.TheVariants.{Antisymmetry, Meet, Join, Distributive, Involution, Antitone}
 use Rattle.xc_lattice.specs.declared.statement.Statement.{Statement}
 use Rattle.xc_lattice.specs.declared.statement.Statement.TheVariants as stated
-use Rattle.xc_lattice.specs.Breaks.{tuples, first_tuple, first_break}
+use Rattle.xc_laws.specs.Breaks.{tuples, first_tuple, first_break}
 use Rattle.xc_lattice.specs.Deciding.{decide}
 use Rattle.xc_lattice.specs.LatticeFiles.{LatticeValue, IsDue, is_repeated, is_unknown, element_excess, lattice_format, Says, IsVerdict, IsLattice}
 use Rattle.xc_lattice.specs.LatticeFiles.Verdict.{Faulty}

@@ -1,13 +1,10 @@
 pub mod Admitting
 pub mod BreakRange
-pub mod Breaking
 pub mod Deciding
 pub mod Drafts
 pub mod Ends
 pub mod Existence
-pub mod Finding
 pub mod Judged
-pub mod Lawful
 pub mod Names
 pub mod PrintedAgain
 pub mod PrintedLines
@@ -18,7 +15,6 @@ pub mod Reading
 pub mod Said
 pub mod Spanning
 pub mod Tokens
-pub mod Unbroken
 pub mod Values
 pub mod Verdicts
 pub mod Facts

@@ -1,10 +1,10 @@
 -- What a lattice keeps makes it fit to be printed.
 use Rattle.std.proofs.Common.{◌≡◌, None}
-use Rattle.xc_lattice.specs.Breaks.{first_break}
+use Rattle.xc_laws.specs.Breaks.{first_break}
 use Rattle.xc_lattice.specs.Drafts.{IsReady}
 use Rattle.xc_lattice.specs.Values.{value_of}
 use Rattle.xc_lattice.specs.declared.lattice.Lattice.{Lattice}
-use Rattle.xc_lattice.proofs.Unbroken.{lawful_is_unbroken}
+use Rattle.xc_laws.proofs.Unbroken.{lawful_is_unbroken}
 
 pub ready : (l : Lattice) → IsReady (value_of l)
 ready l =

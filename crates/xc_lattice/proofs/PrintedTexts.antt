@@ -5,7 +5,7 @@ use Rattle.xc_base.specs.Formats.{Row, IsAccepted}
 use Rattle.xc_base.specs.Lines.{text_rows}
 use Rattle.xc_base.specs.Text.{text_fault}
 use Rattle.xc_base.proofs.CanonicalTexts.{canonical_is_cut, canonical_is_sound}
-use Rattle.xc_lattice.specs.Breaks.{first_break}
+use Rattle.xc_laws.specs.Breaks.{first_break}
 use Rattle.xc_lattice.specs.Drafts.{IsReady}
 use Rattle.xc_lattice.specs.LatticeFiles.{LatticeValue, lattice_format, IsLattice}
 use Rattle.xc_lattice.specs.Printed.{lattice_lines}

@@ -2,10 +2,10 @@
 use Rattle.std.proofs.Common.{◌≡◌, ℕ, List, Some, None, map, sym, ◌∙◌, subst, ap}
 use Rattle.xc_base.specs.Formats.{Row, IsAccepted}
 use Rattle.xc_base.proofs.Deciding.{statements_are_unique, first_faults_are_unique, accepted_has_no_fault}
-use Rattle.xc_lattice.specs.declared.law.Law.{Law}
+use Rattle.xc_laws.specs.declared.law.Law.{Law}
 use Rattle.xc_lattice.specs.declared.statement.Statement.{Statement}
-use Rattle.xc_lattice.specs.Breaks.{first_break}
-use Rattle.xc_lattice.specs.declared.breaks.Break.{Break}
+use Rattle.xc_laws.specs.Breaks.{first_break}
+use Rattle.xc_laws.specs.declared.breaks.Break.{Break}
 use Rattle.xc_lattice.specs.LatticeFiles.{LatticeValue, Says, lattice_format, IsBrokenBy, IsLattice}
 use Rattle.xc_base.specs.Names.{name_at}
 use Rattle.xc_lattice.specs.LatticeFiles.Verdict.{Faulty, Unlawful, Lawful}

@@ -11,8 +11,8 @@ use Rattle.xc_base.specs.declared.fault.Part.{Part}
 use Rattle.xc_base.specs.declared.fault.FileFault.{FileFault}
 use Rattle.xc_base.specs.declared.fault.Part.TheVariants as parts
 use Rattle.xc_base.specs.declared.fault.Counted.TheVariants as counted
-use Rattle.xc_lattice.specs.Breaks.{first_break}
-use Rattle.xc_lattice.specs.declared.law.Law.{Law}
+use Rattle.xc_laws.specs.Breaks.{first_break}
+use Rattle.xc_laws.specs.declared.law.Law.{Law}
 use Rattle.xc_lattice.specs.declared.statement.Statement.{Statement}
 use Rattle.xc_lattice.specs.declared.statement.Statement.TheVariants.{Lattice, Elements, Below, Not}
 

@@ -1,13 +1,8 @@
-pub mod Bounded
-pub mod Breaks
 pub mod Deciding
 pub mod Drafts
 pub mod LatticeFiles
-pub mod Lawful
 pub mod Laws
 pub mod Printed
 pub mod Rooms
 pub mod Stops
-pub mod Tables
-pub mod Tuples
 pub mod Values

@@ -1,11 +1,11 @@
 -- The values that lattices stand for, and the faults of lattice files.
 use Rattle.std.specs.Prelude.{◌≡◌, ℕ, List, map, Some, None}
 use Rattle.xc_base.specs.Formats.{Row}
-use Rattle.xc_lattice.specs.Breaks.{first_break}
+use Rattle.xc_laws.specs.Breaks.{first_break}
 use Rattle.xc_lattice.specs.LatticeFiles.{LatticeValue, IsVerdict}
 use Rattle.xc_base.specs.Names.{name_at}
 use Rattle.xc_lattice.specs.LatticeFiles.Verdict.{Faulty, Unlawful}
-use Rattle.xc_lattice.specs.declared.law.Law.{Law}
+use Rattle.xc_laws.specs.declared.law.Law.{Law}
 use Rattle.xc_lattice.specs.declared.gather.Draft.{Draft}
 use Rattle.xc_lattice.specs.declared.lattice.Lattice.{Lattice}
 use Rattle.xc_lattice.specs.declared.fault.LatFault.{LatFault}

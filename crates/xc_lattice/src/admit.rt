@@ -3,7 +3,7 @@ ghost use Rattle.xc_base.specs.Names.{name_at};
 ghost use Rattle.xc_lattice.specs.Drafts.{IsReady};
 ghost use Rattle.xc_lattice.specs.Values.{said, IsRefusal, IsAdmitted};
 
-use crate::breaks::find_break;
+use xc_laws::find_break;
 use crate::fault::LatFault;
 use crate::gather::Draft;
 use crate::lattice::Lattice;

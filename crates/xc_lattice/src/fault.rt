@@ -1,4 +1,4 @@
-use crate::law::Law;
+use xc_laws::Law;
 use xc_base::{FileFault, List, Memory, Stop, Word};
 
 /// Why a file gives no lattice.

@@ -2,27 +2,21 @@
 #![tactic(auto)]
 
 mod admit;
-mod bounded;
-mod breaks;
 mod copies;
 mod decide;
 mod fault;
 mod gather;
 mod judge;
 mod lattice;
-mod law;
 mod printing;
 mod reader;
 mod rows;
 mod statement;
 mod tabulate;
-mod tuple;
 mod verdict;
 
-pub use breaks::lawful_is_without_break;
 pub use fault::LatFault;
 pub use lattice::Lattice;
-pub use law::Law;
 pub use reader::read;
 pub use statement::Statement;
 pub use verdict::{LatticeFiles, files_have_one_verdict};

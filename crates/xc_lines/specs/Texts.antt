@@ -17,8 +17,8 @@ use Rattle.xc_base.specs.declared.fault.Part.TheVariants as parts
 use Rattle.xc_merge.specs.declared.fault.MergeFault.{MergeFault}
 use Rattle.xc_merge.specs.declared.fault.MergeFault.TheVariants.{UnknownValue, UnknownName, NotTotal, Elements, NoInitial, Initial}
 use Rattle.xc_merge.specs.declared.fault.MergeFault.TheVariants as faults
-use Rattle.xc_lattice.specs.declared.law.Law.{Law}
-use Rattle.xc_lattice.specs.declared.law.Law.TheVariants.{Antisymmetry, Meet, Join, Distributive, Involution, Antitone}
+use Rattle.xc_laws.specs.declared.law.Law.{Law}
+use Rattle.xc_laws.specs.declared.law.Law.TheVariants.{Antisymmetry, Meet, Join, Distributive, Involution, Antitone}
 
 abbrev pub line : List ℕ → List ℕ
 line text = text ++ 10 ∷ []

@@ -10,7 +10,7 @@ ghost use Rattle.xc_lines.specs.Refusals.{IsMergeLine, IsTextLine};
 use crate::text::{push_both, push_names, word_of};
 use std::alloc::{AllocError, Global};
 use xc_base::{Counted, FileFault, List, Memory as NoMemory, Part, TextFault, Word};
-use xc_lattice::Law;
+use xc_laws::Law;
 use xc_merge::MergeFault;
 
 /// A line of a label and two words, with a blank between these.

@@ -9,7 +9,8 @@ ghost use Rattle.xc_lines.specs.Texts.{lattice_text, broken_text, law_word};
 
 use std::alloc::{AllocError, Global};
 use xc_base::{List, Word};
-use xc_lattice::{Lattice, Law};
+use xc_lattice::Lattice;
+use xc_laws::Law;
 
 /// The name of an element.
 fn name_of(lattice: &Lattice, element: u8) -> &str

@@ -11,7 +11,7 @@ use Rattle.xc_lattice.specs.LatticeFiles.{LatticeValue, Lawful, IsVerdict}
 use Rattle.xc_lattice.specs.Drafts.{IsReady}
 use Rattle.xc_lattice.proofs.Drafts.{IsDraft-from_whole}
 use Rattle.xc_lattice.proofs.Said.{IsReady-from_Says}
-use Rattle.xc_lattice.proofs.Lawful.{lawful_from_no_break}
+use Rattle.xc_laws.proofs.Lawful.{lawful_from_no_break}
 use Rattle.xc_product.specs.Heights.{AreHeights}
 use Rattle.xc_product.proofs.SomeHeights as heights
 use Rattle.xc_merge.specs.Merges.{Merge, Viewpoint, nobody, parts_of, names_of_parts}

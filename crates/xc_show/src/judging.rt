@@ -12,7 +12,8 @@ ghost use Rattle.xc_stages.specs.Loaded.{verdict_of};
 
 use std::alloc::Global;
 use xc_base::{List as Items, Shelf, Sink, Word};
-use xc_lattice::{Lattice, Law};
+use xc_lattice::Lattice;
+use xc_laws::Law;
 use xc_lines::{Halt, Passed, broken_text, lattice_line};
 use xc_stages::{Judged, judge_lattice};
 use xc_write::{put_text, serve_text};

@@ -8,7 +8,7 @@ use Rattle.std.proofs.lemmas.List.{map-append}
 use Rattle.xc_base.specs.Shelves.{Shelved}
 use Rattle.xc_lattice.specs.LatticeFiles.{LatticeValue}
 use Rattle.xc_lattice.specs.Values.{value_of as lattice_of}
-use Rattle.xc_lattice.specs.declared.law.Law.{Law}
+use Rattle.xc_laws.specs.declared.law.Law.{Law}
 use Rattle.xc_lattice.specs.declared.lattice.Lattice.{Lattice}
 use Rattle.xc_view.specs.ViewFiles.{ViewValue}
 use Rattle.xc_view.specs.declared.view.View.{View}

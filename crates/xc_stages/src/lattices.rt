@@ -12,7 +12,8 @@ ghost use Rattle.xc_stages.specs.Loaded.{IsFaultRefusal, IsRead, IsRefusalHalt, 
 use crate::load::{FILE_LIMIT, cut, load};
 use std::alloc::Global;
 use xc_base::{Lines, List, Shelf, Word};
-use xc_lattice::{LatFault, Lattice, Law};
+use xc_lattice::{LatFault, Lattice};
+use xc_laws::Law;
 use xc_lines::{Halt, refused_broken, refused_file};
 
 /// The verdict on a lattice file that has no fault.

@@ -7,7 +7,7 @@ use Rattle.xc_base.specs.Canonical.{canonical, spaced}
 use Rattle.xc_base.specs.Formats.{Row, IsAccepted}
 use Rattle.xc_base.specs.declared.shelf.File.{File}
 use Rattle.xc_lattice.specs.LatticeFiles.{LatticeValue, Unlawful, Lawful, IsVerdict}
-use Rattle.xc_lattice.specs.declared.law.Law.TheVariants.{Distributive}
+use Rattle.xc_laws.specs.declared.law.Law.TheVariants.{Distributive}
 use Rattle.xc_view.specs.ViewFiles.{ViewValue, view_format}
 use Rattle.xc_sigmap.specs.MapFiles.{MapValue, map_format}
 use Rattle.xc_lattice.specs.Printed.{lattice_lines}

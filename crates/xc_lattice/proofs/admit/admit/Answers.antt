@@ -1,6 +1,6 @@
 use Rattle.std.proofs.Common.{◌<◌, ℕ, List, Some, None, length, get_or, sym, subst, arith}
 use Rattle.xc_theory.specs.Lattices.{LatticeData, size}
-use Rattle.xc_lattice.proofs.Lawful.{lawful_from_no_break}
+use Rattle.xc_laws.proofs.Lawful.{lawful_from_no_break}
 use Rattle.xc_lattice.proofs.BreakRange.{break_in_range}
 use Rattle.xc_lattice.proofs.Admitting.{negations_in_range, found_in}
 use Rattle.xc_lattice.proofs.admit.admit.Goals as goal

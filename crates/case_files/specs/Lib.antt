@@ -1,0 +1,4 @@
+pub mod Changes
+pub mod Keys
+pub mod Sources
+pub mod Written
