@@ -18,7 +18,7 @@ fn a_copied_view_has_the_canonical_text(rt: HostRuntime) -> Result<(), Fail> {
     let expected =
         b"view mix\nlattice dir/two.lat\nvar x a b c\nvar y a b c\ninit x!=y\nprop q F when x=b&(y=a|y=b)\nprop p T when x=a\nprop q T when true\ncommand stay with T when!(x=y|y!=a)do skip\ncommand turn with N when x=b do x:=y;y:=prev x\n";
     let copy = view_of(rt.alloc(), text)?.copy(rt.alloc())?;
-    let printed = copy.print(rt.alloc())?;
+    let printed = xc_view_text::print(rt.alloc(), &copy)?;
     assert_eq!(rt; printed.as_slice(), expected.as_slice());
     Ok(())
 }

@@ -32,7 +32,7 @@ fn print_lattice<W: Sink>(alloc: Global, out: &mut W, lattice: &Lattice) -> Resu
 fn print_view<W: Sink>(alloc: Global, out: &mut W, view: &View) -> Result<Passed, Halt>
     ensures { WorksAlways (Shows (view_lines (view_of view.now))) (W.seen out.old) (W.seen out.new) result }
 {
-    let text = view.print(alloc)?;
+    let text = xc_view_text::print(alloc, view)?;
     serve_text(out, Passed::Done, text.as_slice())
 }
 

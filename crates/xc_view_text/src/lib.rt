@@ -1,6 +1,6 @@
 //! The canonical texts of views, and that they are read again as the same view.
 #![tactic(auto)]
 
-mod print;
+mod canonical;
 
-pub use print::print_view;
+pub use canonical::print;

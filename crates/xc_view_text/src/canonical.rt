@@ -170,7 +170,7 @@ fn push_commands(
 }
 
 /// The canonical text of a view. It is read again as the same view, where no line is too long.
-pub fn print_view(alloc: Global, view: &View) -> Result<Bytes, Memory>
+pub fn print(alloc: Global, view: &View) -> Result<Bytes, Memory>
     ensures text { IfOk result (λ text. text ≡ canonical (view_lines (value_of view.now))) }
     ensures again { IfOk result (λ text. IsAccepted view_format (text_rows text) (value_of view.now)) }
     ensures sound { list_all is_short (view_lines (value_of view.now)) ≡ true

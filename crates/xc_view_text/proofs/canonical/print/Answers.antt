@@ -4,7 +4,7 @@ use Rattle.xc_view.specs.Parts.{prop_value, command_value}
 use Rattle.xc_view.specs.Views.{value_of}
 use Rattle.xc_view_text.proofs.Printing.{props_printed, commands_printed, printed}
 use Rattle.xc_view_text.proofs.Rereading.{text_reads_again, text_is_sound}
-use Rattle.xc_view_text.proofs.print.print_view.Goals as goal
+use Rattle.xc_view_text.proofs.canonical.print.Goals as goal
 
 pub push_props-requires : goal.push_props-requires
 push_props-requires c =
