@@ -13,8 +13,8 @@ use std::test::Fail;
 use xc_base::{Bytes, cut_lines};
 use xc_expr::{Action, Guard, read_action, read_guard};
 use xc_expr_text::{print_action, print_guard};
-use xc_moves::{holds, moves};
 use xc_forms::{Vars, state_count};
+use xc_moves::{holds, moves};
 use xc_view::View;
 
 // States are numbered by six for `a`, two for `b` and one for `q`.

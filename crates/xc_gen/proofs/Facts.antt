@@ -94,7 +94,7 @@ names = refl
 pub sizes : map is_size (0 ∷ 1 ∷ 20 ∷ 21 ∷ []) ≡ false ∷ true ∷ true ∷ false ∷ []
 sizes = refl
 
--- no size for which there are files is refused, and another one with no other number, nor for want of memory
+-- no size for which there are files is refused, and another one with no other number, and being out of memory is no refusal
 pub within : ¬ IsFaultOf 4 (Size 4) × ¬ IsFaultOf 1 (Size 1) × ¬ IsFaultOf 20 (Size 20) × IsFaultOf 4 Memory
 within = ((λ h. false≢true (sym h.1)), (λ h. false≢true (sym h.1)), (λ h. false≢true (sym h.1)), refl)
 

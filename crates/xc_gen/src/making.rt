@@ -54,7 +54,7 @@ fn filled(alloc: Global, number: u32, size: u32) -> Result<MemoryShelf, Memory>
 /// and formulas. Its loads fail only at names that it does not hold.
 ///
 /// The size is the number of bits of a counter, and the number decides the weights of the commands. A size is refused, with
-/// its number, where it is none from 1 to 20. Else it may fail for want of memory.
+/// its number, where it is none from 1 to 20. Else it may run out of memory.
 pub fn make(alloc: Global, number: u32, size: u32) -> Result<MemoryShelf, GenFault>
     ensures within { OnOk result (is_size size ≡ true) }
     ensures files { IfOk result (λ shelf. shelf ≡ generated number size) }

@@ -53,7 +53,7 @@ write_line = line (codes "fault write")
 abbrev pub memory_line : List ℕ
 memory_line = line (codes "fault memory")
 
--- for a text that is not cut into lines: the file, and the number of its first line that is at fault (want of memory is none)
+-- for a text that is not cut into lines: the file, and the number of its first line that is at fault (out of memory has none)
 abbrev pub text_line : List ℕ → TextFault → List ℕ
 text_line file LongFile = line (codes "refused longfile " ++ file)
 text_line file (BadByte number) = line (codes "refused byte " ++ file ++ 32 ∷ decimal number)
@@ -120,7 +120,7 @@ no_initial_line = line (codes "refused noinitial")
 abbrev pub initial_line : ℕ → List ℕ
 initial_line count = line (codes "refused initial " ++ decimal count)
 
--- the line for a fault of a merge (want of memory is none)
+-- the line for a fault of a merge (out of memory has none)
 abbrev pub merge_line : MergeFault → List ℕ
 merge_line (UnknownValue viewpoint value) = value_line viewpoint value
 merge_line (UnknownName viewpoint name) = name_line viewpoint name

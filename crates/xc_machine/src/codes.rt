@@ -6,8 +6,8 @@ ghost use Rattle.xc_forms.specs.Variables.{are_fit, sizes_of};
 ghost use Rattle.xc_sigmap.specs.Maps.{value_of as map_of};
 
 use crate::merged::Merged;
-use xc_moves::places_of;
 use xc_forms::Vars;
+use xc_moves::places_of;
 
 /// The state of some places of variables.
 pub(crate) fn code_in(vars: &Vars, row: &[u8]) -> u32

@@ -9,8 +9,8 @@ ghost use Rattle.xc_machine.specs.Joins.{both, has_action_in, has_guard_in, has_
 ghost use Rattle.xc_machine.specs.Tabled.{AreWeights};
 
 use xc_alg::Algebra;
-use xc_moves::{holds_in, moves_in};
 use xc_forms::Vars;
+use xc_moves::{holds_in, moves_in};
 use xc_view::{Command, PropLine};
 
 /// A code joined with a weight that passes.

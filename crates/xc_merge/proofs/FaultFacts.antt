@@ -126,7 +126,7 @@ initial_limits = (refl, refl, refl, refl)
 pub firsts : (first_of (NoInitial ∷ Elements 1 ∷ []) None ≡ Some NoInitial) × (first_of (NoInitial ∷ []) (Some (Elements 1)) ≡ Some NoInitial) × (first_of [] (Some (Elements 1)) ≡ Some (Elements 1)) × (first_of [] None ≡ None)
 firsts = (refl, refl, refl, refl)
 
--- what is no refusal: another fault than the first, and any where there is none, but for want of memory
+-- what is no refusal: another fault than the first, and any where there is none, but for being out of memory
 pub refusals : IsRefusal (over 6 1 tests.True) (Elements 8192) × IsRefusal (over 6 0 tests.False) NoInitial × IsRefusal house Memory × IsFirstOf (UnknownName F T ∷ NotTotal F T ∷ []) (UnknownName F T) × IsFirstOf [] Memory
 unfolding all_faults initials_of
 refusals = (refl, refl, tt, refl, tt)

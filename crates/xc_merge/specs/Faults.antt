@@ -122,7 +122,7 @@ IsRefusal m NoInitial = merge_fault m ≡ Some NoInitial
 IsRefusal m (Initial count) = merge_fault m ≡ Some (Initial count)
 IsRefusal m Memory = Unit {0}
 
--- whether a search of some faults may end so: with the first of them, or for want of memory
+-- whether a search of some faults may end so: with the first of them, or out of memory
 abbrev pub IsFirstOf : List MergeFault → MergeFault → Type 0
 IsFirstOf faults (UnknownValue viewpoint value) = first_of faults None ≡ Some (UnknownValue viewpoint value)
 IsFirstOf faults (UnknownName viewpoint name) = first_of faults None ≡ Some (UnknownName viewpoint name)

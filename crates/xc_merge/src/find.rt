@@ -88,7 +88,7 @@ fn look_at(
 
 /// Looks for what is wrong with the viewpoints of a map, one after another: a view and its lattice for each.
 ///
-/// It fails with the first that is wrong, or for want of memory.
+/// It fails with the first that is wrong, or out of memory.
 #[tactic(auto, using(std::proofs::lemmas::Grind::common_steps, crate::proofs::Gathering::all_steps))]
 pub fn find_fault(
     alloc: Global,

@@ -14,7 +14,7 @@ use Rattle.xc_merge.specs.MergedFrames.{initials_of}
 use Rattle.xc_ctl.specs.TableTrees.{trees_of}
 use Rattle.xc_ctl.specs.Rounds.{RoundsTable}
 use Rattle.xc_ctl.specs.declared.kind.Kind.TheVariants.{Const, Atom, Not, And, Ex, Eu, Au, Eg}
-use Rattle.xc_report.specs.Reports.{signature_of, head_text, value_text, share_text, node_text, size_text, values_text, block_text, report_text}
+use Rattle.xc_report.specs.Reports.{signature_of, head_text, value_text, share_text, node_text, size_text, values_text, block_text}
 
 abbrev lines : List ℕ → List ℕ
 lines text = text ++ 10 ∷ []
@@ -113,7 +113,7 @@ unfolding digits initials_of
 told_of_values = refl
 
 -- a whole report: the line of the machine, then the formulas, numbered from 1 on
-pub reported : report_text false pair 3 ((Atom 0 ∷ Ex 0 ∷ []) ∷ (Const 5 ∷ []) ∷ []) (told 1 4 ∷ told 0 5 ∷ [])
+pub reported : head_text false pair 3 ++ block_text false pair 1 (Atom 0 ∷ Ex 0 ∷ []) (told 1 4) None ++ block_text false pair 2 (Const 5 ∷ []) (told 0 5) None
     ≡ lines (codes "map pair states 2 elements 6 height 3 initial 1") ++ lines (codes "formula 1 EX p") ++ lines (codes "value 0 x=0 T,M") ++ lines (codes "share alice F=0 T=1") ++ lines (codes "share bob F=0 M=1 T=0")
     ++ lines (codes "formula 2 true") ++ lines (codes "value 0 x=0 T,T") ++ lines (codes "share alice F=0 T=1") ++ lines (codes "share bob F=0 M=0 T=1")
 unfolding digits first_meet first_join initials_of product trees_of spaced

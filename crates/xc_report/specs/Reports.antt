@@ -110,13 +110,3 @@ block_text marked m number nodes table size =
     ++ flat_map (node_text marked nodes table) (range_with_len 0 (length nodes))
     ++ values_text marked m (table.at (length nodes - 1))
     ++ size_text marked size
-
--- the blocks of formulas, numbered from a number on, each by its table
-abbrev pub blocks_text : Bool → Merge → ℕ → List (List Kind) → List RoundsTable → List ℕ
-blocks_text marked m number [] tables = []
-blocks_text marked m number (nodes ∷ formulas) [] = []
-blocks_text marked m number (nodes ∷ formulas) (table ∷ tables) = block_text marked m number nodes table None ++ blocks_text marked m (number + 1) formulas tables
-
--- The report: the line of the machine, and behind it the blocks of all formulas.
-abbrev pub report_text : Bool → Merge → ℕ → List (List Kind) → List RoundsTable → List ℕ
-report_text marked m height formulas tables = head_text marked m height ++ blocks_text marked m 1 formulas tables

@@ -18,9 +18,9 @@ use crate::told::Told;
 use std::alloc::Global;
 use xc_base::{Bytes, Memory};
 use xc_ctl::Rounds;
-use xc_moves::places_of;
 use xc_forms::{Domain, Vars};
 use xc_machine::Machine;
+use xc_moves::places_of;
 
 // Appends a variable with the name of its value.
 fn push_place(text: &mut Bytes, domain: &Domain, place: u8) -> Result<(), Memory>

@@ -57,7 +57,7 @@ fn copy_commands(alloc: Global, commands: &[Command]) -> Result<List<Command>, M
 impl View {
     ghost use Rattle.xc_view.specs.Views.{value_of};
 
-    /// An equal view with memory of its own, or the want of memory for it.
+    /// An equal view, with memory of its own.
     pub fn copy(&self, alloc: Global) -> Result<View, Memory>
         ensures { IfOk result (λ v. value_of v ≡ value_of self.now) }
     {

@@ -3,10 +3,10 @@ ghost use Rattle.xc_view.specs.ViewFiles.{vars_of};
 ghost use Rattle.xc_view_lines.specs.Statements.{stated};
 ghost use Rattle.xc_view.specs.Drafts.{all_stated, IsFair};
 
-use xc_view_lines::Statement;
 use std::alloc::Global;
 use xc_base::{List, Memory};
 use xc_forms::{Vars, copy_domain};
+use xc_view_lines::Statement;
 
 /// Faultless statements of a file, with their variables.
 #[derive(Debug, Drop)]

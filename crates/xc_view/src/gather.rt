@@ -14,12 +14,12 @@ ghost use Rattle.xc_view.specs.Drafted.{drafted};
 
 use crate::draft::Draft;
 use crate::lines::{Command, PropLine};
-use xc_view_lines::Statement;
 use crate::view::View;
 use std::alloc::Global;
 use xc_base::{List, Memory, Word};
 use xc_expr::{Action, Guard, Phrase, Setting, resolve_action, resolve_guard};
 use xc_forms::Vars;
+use xc_view_lines::Statement;
 
 fn view_name(alloc: Global, s: &Statement) -> Result<Word, Memory>
     requires { is_view (stated s.now) ≡ true }

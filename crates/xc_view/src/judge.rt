@@ -12,11 +12,11 @@ ghost use Rattle.xc_view.specs.Drafts.{all_stated};
 
 use crate::draft::Draft;
 use crate::limits::limit_fault;
-use xc_view_lines::Statement;
 use std::alloc::Global;
 use xc_base::{FileFault, Memory, Word, has_twice};
 use xc_expr::{Phrase, Setting, resolve_action, resolve_guard, sets_twice};
 use xc_forms::{Domain, Vars};
+use xc_view_lines::Statement;
 
 fn is_var_of(domain: &Domain, name: &Word) -> bool
     ensures { result ≡ bytes_eq name.now domain.now.name }

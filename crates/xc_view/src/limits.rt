@@ -8,9 +8,9 @@ ghost use Rattle.xc_view_lines.specs.Statements.{stated};
 ghost use Rattle.xc_view.specs.Drafts.{all_stated};
 
 use crate::draft::Draft;
-use xc_view_lines::Statement;
 use xc_base::{Counted, FileFault};
 use xc_forms::{Vars, state_count};
+use xc_view_lines::Statement;
 
 #[tactic(auto, using(crate::proofs::Sizes::total_push))]
 fn var_fault(vars: &Vars, size: usize, line: u32) -> Option<FileFault>

@@ -8,13 +8,12 @@ ghost use Rattle.xc_view_lines.specs.Statements.{stated, GivesAs};
 ghost use Rattle.xc_view.specs.Drafts.{all_stated};
 ghost use Rattle.xc_view.specs.Drafted.{drafted};
 
-use xc_view_lines::line;
 use crate::draft::Draft;
 use crate::due::is_due;
 use crate::judge::{has_init, judge};
-use xc_view_lines::Statement;
 use std::alloc::Global;
 use xc_base::{FileFault, Lexeme, Lines, Memory, Part, Stop};
+use xc_view_lines::{Statement, line};
 
 /// The statement that a row of these tokens is after those of a draft, where it is one.
 #[tactic(auto, unfolding(crate::specs::Deciding::decide))]

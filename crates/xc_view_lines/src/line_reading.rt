@@ -180,10 +180,7 @@ fn word_line<'a>(
 
 /// The statement that a row of these tokens is, where it is one.
 #[tactic(auto, unfolding(crate::specs::LineReading::line))]
-pub fn line<'a>(
-    alloc: Global,
-    tokens: &[Lexeme<'a>],
-) -> Result<Option<Statement<'a>>, Memory>
+pub fn line<'a>(alloc: Global, tokens: &[Lexeme<'a>]) -> Result<Option<Statement<'a>>, Memory>
     ensures { IfOk result (λ s. option_map stated s ≡ line (texts tokens.now)) }
 {
     match tokens {

@@ -19,13 +19,12 @@ ghost use Rattle.xc_view.specs.ViewFiles.{view_format};
 ghost use Rattle.xc_view.specs.Views.{value_of};
 ghost use Rattle.xc_view.specs.Printing.{view_lines};
 
-use xc_view::{Command, PropLine};
-use xc_view::View;
 use std::alloc::Global;
 use xc_base::{Bytes, Lexeme, List, Memory, Word, push_line};
 use xc_expr::Guard;
 use xc_expr_text::{push_action, push_guard};
 use xc_forms::{Domain, Vars};
+use xc_view::{Command, PropLine, View};
 
 fn word<'a>(text: &'a [u8]) -> Lexeme<'a>
     ensures { result.text.now ≡ text.now }
