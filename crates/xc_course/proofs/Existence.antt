@@ -11,7 +11,7 @@ use Rattle.xc_lattice.specs.LatticeFiles.{Verdict, Faulty, Unlawful, Lawful, IsV
 use Rattle.xc_lattice.proofs.Existence.{each_has_verdict}
 use Rattle.xc_view.specs.ViewFiles.{view_format}
 use Rattle.xc_view.proofs.Verdicts.{files_are_judged as each_view_is_judged}
-use Rattle.xc_sigmap.specs.MapFiles.{map_format}
+use Rattle.xc_sigmap_lines.specs.MapFiles.{map_format}
 use Rattle.xc_sigmap.proofs.Verdicts.{files_are_judged as each_map_is_judged}
 use Rattle.xc_formula_text.specs.FormulaFiles.{formula_format}
 use Rattle.xc_formula_text.proofs.Verdicts.{formula_files_are_judged}

@@ -11,7 +11,7 @@ use Rattle.xc_lattice.specs.LatticeFiles.{Verdict, Faulty, Unlawful, Lawful}
 use Rattle.xc_lattice.proofs.Verdicts.{verdicts_are_unique}
 use Rattle.xc_view.specs.ViewFiles.{view_format}
 use Rattle.xc_view.proofs.Verdicts.{views_are_unique, faults_are_unique as view_faults_are_unique, accepted_is_faultless as views_have_no_fault}
-use Rattle.xc_sigmap.specs.MapFiles.{map_format}
+use Rattle.xc_sigmap_lines.specs.MapFiles.{map_format}
 use Rattle.xc_sigmap.proofs.Verdicts.{maps_are_unique, faults_are_unique as map_faults_are_unique, accepted_is_faultless as maps_have_no_fault}
 use Rattle.xc_formula_text.specs.FormulaFiles.{formula_format}
 use Rattle.xc_ctl.specs.Trees.{Signature}

@@ -1,6 +1,6 @@
 -- What comes behind each stage of a check.
 use Rattle.std.specs.Prelude.{ℕ, false, List, []}
-use Rattle.xc_sigmap.specs.MapFiles.{MapValue}
+use Rattle.xc_sigmap_lines.specs.MapFiles.{MapValue}
 use Rattle.xc_merge.specs.Merges.{Merge, Viewpoint}
 use Rattle.xc_ctl.specs.declared.kind.Kind.{Kind}
 use Rattle.xc_report.specs.Reports.{signature_of}

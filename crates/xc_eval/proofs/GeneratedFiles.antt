@@ -7,8 +7,8 @@ use Rattle.xc_base.specs.Lines.{text_rows}
 use Rattle.xc_base.specs.Shelves.{Told, Shelved, held, shelved}
 use Rattle.xc_base.specs.Sinks.{Sunk, AddsNothing}
 use Rattle.xc_base.specs.declared.shelf.File.{File}
-use Rattle.xc_sigmap.specs.MapFiles.{MapValue, map_format}
-use Rattle.xc_sigmap.specs.declared.parts.Use.{Use}
+use Rattle.xc_sigmap_lines.specs.MapFiles.{MapValue, map_format}
+use Rattle.xc_sigmap_lines.specs.declared.parts.Use.{Use}
 use Rattle.xc_merge.specs.Merges.{Merge, Viewpoint}
 use Rattle.xc_formula_text.specs.FormulaFiles.{formula_format}
 use Rattle.xc_report.specs.Reports.{signature_of}

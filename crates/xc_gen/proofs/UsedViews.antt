@@ -4,10 +4,10 @@ use Rattle.std.specs.Str.{bytes_eq}
 use Rattle.std.proofs.lemmas.Bool.{false≢true, or_parts, not-true}
 use Rattle.xc_base.specs.Formats.{Row, AreStatements}
 use Rattle.xc_base.specs.Formats.AreStatements.{none, next}
-use Rattle.xc_sigmap.specs.declared.parts.Use as viewpoints
-use Rattle.xc_sigmap.specs.declared.statement.Statement.{Statement}
-use Rattle.xc_sigmap.specs.declared.statement.Statement.TheVariants.{Map, Use, Var, Prop, Send, Tell, Stutter}
-use Rattle.xc_sigmap.specs.MapFiles.{MapValue, spelling, is_map, is_use, is_due, may_follow, last_of, uses_of, map_format}
+use Rattle.xc_sigmap_lines.specs.declared.parts.Use as viewpoints
+use Rattle.xc_sigmap_lines.specs.declared.statement.Statement.{Statement}
+use Rattle.xc_sigmap_lines.specs.declared.statement.Statement.TheVariants.{Map, Use, Var, Prop, Send, Tell, Stutter}
+use Rattle.xc_sigmap_lines.specs.MapFiles.{MapValue, spelling, is_map, is_use, is_due, may_follow, last_of, uses_of, map_format}
 use Rattle.xc_sigmap.proofs.Fair.{last_push}
 use Rattle.xc_gen.specs.declared.side.Side.TheVariants.{Left, Right}
 use Rattle.xc_gen.specs.Links.{use_of, UsesBothViews}

@@ -2,8 +2,8 @@
 use Rattle.std.specs.Prelude.{◌≡◌, ℕ, List, [], ◌∷◌, codes}
 use Rattle.xc_base.specs.Formats.{IsAccepted}
 use Rattle.xc_base.specs.Lines.{text_rows}
-use Rattle.xc_sigmap.specs.declared.parts.Use.{Use}
-use Rattle.xc_sigmap.specs.MapFiles.{MapValue, map_format}
+use Rattle.xc_sigmap_lines.specs.declared.parts.Use.{Use}
+use Rattle.xc_sigmap_lines.specs.MapFiles.{MapValue, map_format}
 use Rattle.xc_view.specs.ViewFiles.{ViewValue, view_format}
 use Rattle.xc_gen.specs.declared.side.Side.{Side}
 use Rattle.xc_gen.specs.declared.side.Side.TheVariants.{Left, Right}

@@ -15,9 +15,9 @@ use Rattle.xc_lattice.specs.LatticeFiles.{LatticeValue}
 use Rattle.xc_view_lines.specs.ViewLines as statements
 use Rattle.xc_view.specs.ViewFiles as views
 use Rattle.xc_view.specs.Deciding as view_lines
-use Rattle.xc_sigmap.specs.MapFiles as maps
-use Rattle.xc_sigmap.specs.Deciding as map_lines
-use Rattle.xc_sigmap.specs.declared.statement.Statement as stated
+use Rattle.xc_sigmap_lines.specs.MapFiles as maps
+use Rattle.xc_sigmap_lines.specs.Deciding as map_lines
+use Rattle.xc_sigmap_lines.specs.declared.statement.Statement as stated
 use Rattle.xc_merge.specs.Merges.{Viewpoint}
 use Rattle.xc_merge.specs.Projections.{source, carried}
 use Rattle.xc_merge.specs.MergedFrames.{is_initial_for}

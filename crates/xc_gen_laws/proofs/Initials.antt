@@ -10,7 +10,7 @@ use Rattle.xc_base.proofs.Naming.{same_bytes}
 use Rattle.xc_forms.specs.Variables.{sizes_of}
 use Rattle.xc_expr.specs.Tests.{holds_at}
 use Rattle.xc_forms.specs.declared.domain.Domain.{Domain}
-use Rattle.xc_sigmap.specs.MapFiles.{MapValue}
+use Rattle.xc_sigmap_lines.specs.MapFiles.{MapValue}
 use Rattle.xc_merge.specs.Merges.{Viewpoint}
 use Rattle.xc_merge.specs.Projections.{source, carried, place_seen, row_seen, row_of, states_of, projection}
 use Rattle.xc_merge.specs.MergedFrames.{is_initial_for, is_merged_initial, initials_of}

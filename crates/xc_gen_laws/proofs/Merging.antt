@@ -9,7 +9,7 @@ use Rattle.xc_lattice.specs.LatticeFiles.Verdict.{Faulty, Unlawful, Lawful}
 use Rattle.xc_lattice.proofs.Verdicts.{verdicts_are_unique}
 use Rattle.xc_view.specs.ViewFiles.{ViewValue}
 use Rattle.xc_view.proofs.Verdicts.{views_are_unique}
-use Rattle.xc_sigmap.specs.MapFiles.{MapValue}
+use Rattle.xc_sigmap_lines.specs.MapFiles.{MapValue}
 use Rattle.xc_sigmap.proofs.Verdicts.{maps_are_unique}
 use Rattle.xc_merge.specs.Faults.{merge_fault}
 use Rattle.xc_merge.specs.Merges.{Viewpoint}

@@ -7,8 +7,8 @@ use Rattle.xc_base.specs.Names.{are_same}
 use Rattle.xc_base.specs.Text.{text_fault}
 use Rattle.xc_base.specs.declared.fault.FileFault.{FileFault}
 use Rattle.xc_forms.specs.Variables.{sizes_of}
-use Rattle.xc_sigmap.specs.MapFiles as maps
-use Rattle.xc_sigmap.specs.declared.statement.Statement as stated
+use Rattle.xc_sigmap_lines.specs.MapFiles as maps
+use Rattle.xc_sigmap_lines.specs.declared.statement.Statement as stated
 use Rattle.xc_gen.specs.declared.side.Side.TheVariants.{Left, Right}
 use Rattle.xc_gen.specs.Generated.{map_text}
 use Rattle.xc_gen_laws.specs.Readings.{file_limit}

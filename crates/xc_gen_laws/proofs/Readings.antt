@@ -14,8 +14,8 @@ use Rattle.xc_forms.specs.Variables.{sizes_of}
 use Rattle.xc_view_lines.specs.ViewLines as statements
 use Rattle.xc_view.specs.ViewFiles as views
 use Rattle.xc_view.proofs.Verdicts.{view_accepted}
-use Rattle.xc_sigmap.specs.MapFiles as maps
-use Rattle.xc_sigmap.specs.declared.statement.Statement as stated
+use Rattle.xc_sigmap_lines.specs.MapFiles as maps
+use Rattle.xc_sigmap_lines.specs.declared.statement.Statement as stated
 use Rattle.xc_sigmap.proofs.Verdicts.{map_accepted}
 use Rattle.xc_merge.specs.Merges.{Viewpoint}
 use Rattle.xc_gen.specs.declared.side.Side.{Side}

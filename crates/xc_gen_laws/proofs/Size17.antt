@@ -9,7 +9,7 @@ use Rattle.xc_expr.specs.ActionReading.{assignment_in, assignments_in}
 use Rattle.xc_expr.specs.Reading.{guard_in, action_in}
 use Rattle.xc_view_lines.specs.LineReading as view_lines
 use Rattle.xc_view.specs.Deciding as views
-use Rattle.xc_sigmap.specs.Deciding as maps
+use Rattle.xc_sigmap_lines.specs.Deciding as maps
 use Rattle.xc_gen.specs.Generated.{view_text, map_text, has_value}
 use Rattle.xc_gen.specs.declared.side.Side.TheVariants.{Left, Right}
 use Rattle.xc_gen_laws.proofs.Checks.{all_fit, views_fit, view_fits, view_read}

@@ -7,7 +7,7 @@ use Rattle.xc_base.specs.Text.{text_fault}
 use Rattle.xc_lattice.specs.LatticeFiles.{IsVerdict}
 use Rattle.xc_lattice.specs.LatticeFiles.Verdict.{Lawful}
 use Rattle.xc_view.specs.ViewFiles.{view_format}
-use Rattle.xc_sigmap.specs.MapFiles.{MapValue, map_format}
+use Rattle.xc_sigmap_lines.specs.MapFiles.{MapValue, map_format}
 use Rattle.xc_ctl.specs.Trees.{Signature}
 use Rattle.xc_merge.specs.Merges.{Merge, Viewpoint, parts_of, names_of_parts}
 use Rattle.xc_gen.specs.declared.side.Side.TheVariants.{Left, Right}

@@ -10,7 +10,7 @@ use Rattle.xc_expr.specs.Tests.{holds_at}
 use Rattle.xc_forms.specs.Variables.{sizes_of}
 use Rattle.xc_forms.specs.declared.domain.Domain.{Domain}
 use Rattle.xc_moves.proofs.Moving.{sizes_length}
-use Rattle.xc_sigmap.specs.MapFiles.{MapValue}
+use Rattle.xc_sigmap_lines.specs.MapFiles.{MapValue}
 use Rattle.xc_merge.specs.Merges.{Merge, Viewpoint, viewpoint_at}
 use Rattle.xc_merge.specs.Projections.{states_of, row_of, row_seen, place_seen, projection, source, carried}
 use Rattle.xc_merge.specs.MergedFrames.{is_initial_for, is_merged_initial, initials_of}

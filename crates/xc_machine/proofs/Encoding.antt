@@ -8,7 +8,7 @@ use Rattle.xc_lattice.specs.declared.lattice.Lattice.{Lattice}
 use Rattle.xc_view.specs.ViewFiles.{PropValue}
 use Rattle.xc_view.specs.declared.view.View.{View}
 use Rattle.xc_sigmap.specs.Maps.{value_of as map_of}
-use Rattle.xc_sigmap.specs.MapFiles.{MapValue}
+use Rattle.xc_sigmap_lines.specs.MapFiles.{MapValue}
 use Rattle.xc_sigmap.specs.declared.sigmap.SigMap.{SigMap}
 use Rattle.xc_merge.specs.Merges.{Viewpoint, viewpoint_at}
 use Rattle.xc_merge.specs.Merging.{viewpoint_of, merge_in}

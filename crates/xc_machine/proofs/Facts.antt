@@ -11,8 +11,8 @@ use Rattle.xc_expr.specs.declared.guard.Guard.TheVariants as guards
 use Rattle.xc_expr.specs.declared.assign.Assign.TheVariants as assigns
 use Rattle.xc_view.specs.declared.lines.PropLine.{PropLine}
 use Rattle.xc_view.specs.declared.lines.Command.{Command}
-use Rattle.xc_sigmap.specs.MapFiles.{MapValue}
-use Rattle.xc_sigmap.specs.declared.parts.Told.TheVariants.{Named, Constant}
+use Rattle.xc_sigmap_lines.specs.MapFiles.{MapValue}
+use Rattle.xc_sigmap_lines.specs.declared.parts.Told.TheVariants.{Named, Constant}
 use Rattle.xc_merge.specs.Merges.{Merge, Viewpoint}
 use Rattle.xc_merge.specs.Projections.{carried}
 use Rattle.xc_merge.specs.MergedFrames.{step_digit, prop_digit, is_merged_initial}

@@ -13,11 +13,11 @@ use Rattle.xc_lattice.specs.declared.lattice.Lattice.{Lattice}
 use Rattle.xc_view.specs.Parts.{is_sound}
 use Rattle.xc_view.specs.declared.view.View.{View}
 use Rattle.xc_sigmap.specs.Maps.{value_of as map_of}
-use Rattle.xc_sigmap.specs.MapFiles.{MapValue}
+use Rattle.xc_sigmap_lines.specs.MapFiles.{MapValue}
 use Rattle.xc_sigmap.specs.declared.sigmap.SigMap.{SigMap}
-use Rattle.xc_sigmap.specs.declared.parts.Tell.{Tell}
-use Rattle.xc_sigmap.specs.declared.parts.Told.{Told}
-use Rattle.xc_sigmap.specs.declared.parts.Told.TheVariants.{Named, Constant}
+use Rattle.xc_sigmap_lines.specs.declared.parts.Tell.{Tell}
+use Rattle.xc_sigmap_lines.specs.declared.parts.Told.{Told}
+use Rattle.xc_sigmap_lines.specs.declared.parts.Told.TheVariants.{Named, Constant}
 use Rattle.xc_ctl.specs.Frames.{IsFrame}
 use Rattle.xc_merge.specs.Merges.{Merge, Viewpoint, viewpoint_at, for_each, parts_of}
 use Rattle.xc_merge.specs.Merging.{viewpoint_of, merge_in}

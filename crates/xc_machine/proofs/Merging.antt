@@ -13,7 +13,7 @@ use Rattle.xc_lattice.specs.Values.{value_of as lattice_of}
 use Rattle.xc_lattice.specs.declared.lattice.Lattice.{Lattice}
 use Rattle.xc_view.specs.declared.view.View.{View}
 use Rattle.xc_sigmap.specs.Maps.{value_of as map_of}
-use Rattle.xc_sigmap.specs.MapFiles.{MapValue}
+use Rattle.xc_sigmap_lines.specs.MapFiles.{MapValue}
 use Rattle.xc_sigmap.specs.declared.sigmap.SigMap.{SigMap}
 use Rattle.xc_merge.specs.Merges.{Merge, Viewpoint, nobody, viewpoint_at, parts_of, names_of_parts}
 use Rattle.xc_merge.specs.Merging.{viewpoint_of, merge_in}

@@ -8,7 +8,7 @@ use Rattle.xc_theory.specs.Codes.{AreDigits}
 use Rattle.xc_forms.specs.Variables.{sizes_of, values_at, are_fit, is_domain}
 use Rattle.xc_forms.specs.declared.domain.Domain.{Domain}
 use Rattle.xc_moves.proofs.Moving.{digits_length, sizes_length}
-use Rattle.xc_sigmap.specs.MapFiles.{MapValue}
+use Rattle.xc_sigmap_lines.specs.MapFiles.{MapValue}
 use Rattle.xc_merge.specs.Merges.{Viewpoint}
 use Rattle.xc_merge.specs.Projections.{source, place_seen, row_seen}
 use Rattle.xc_machine.specs.declared.tables.Feed.{Feed}

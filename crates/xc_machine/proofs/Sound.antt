@@ -8,7 +8,7 @@ use Rattle.xc_machine.proofs.Fronts.{positive_factors, total_split}
 use Rattle.xc_theory.specs.Codes.{total}
 use Rattle.xc_forms.specs.Variables.{are_fit, is_domain, sizes_of}
 use Rattle.xc_forms.specs.declared.domain.Domain.{Domain}
-use Rattle.xc_sigmap.specs.MapFiles.{MapValue}
+use Rattle.xc_sigmap_lines.specs.MapFiles.{MapValue}
 use Rattle.xc_sigmap.specs.Sound as maps
 use Rattle.xc_expr.specs.Tests.{is_in_range}
 use Rattle.xc_view.specs.ViewFiles.{ViewValue}

@@ -17,11 +17,11 @@ use Rattle.xc_view.specs.ViewFiles.{PropValue}
 use Rattle.xc_view.specs.Parts.{prop_value, command_value}
 use Rattle.xc_view.specs.declared.lines.PropLine.{PropLine}
 use Rattle.xc_view.specs.declared.lines.Command.{Command}
-use Rattle.xc_sigmap.specs.MapFiles.{MapValue}
+use Rattle.xc_sigmap_lines.specs.MapFiles.{MapValue}
 use Rattle.xc_sigmap.specs.Sound as maps
-use Rattle.xc_sigmap.specs.declared.parts.SendLine.{SendLine}
-use Rattle.xc_sigmap.specs.declared.parts.Stutter.{Stutter}
-use Rattle.xc_sigmap.specs.declared.parts.Tell.{Tell}
+use Rattle.xc_sigmap_lines.specs.declared.parts.SendLine.{SendLine}
+use Rattle.xc_sigmap_lines.specs.declared.parts.Stutter.{Stutter}
+use Rattle.xc_sigmap_lines.specs.declared.parts.Tell.{Tell}
 use Rattle.xc_merge.specs.Merges.{Viewpoint}
 use Rattle.xc_merge.specs.Projections.{line_for, sends, carried_word, carried_place, source, source_in, carried, carried_in}
 use Rattle.xc_merge.specs.MergedFrames.{line_of, stutter_words}

@@ -1,8 +1,8 @@
 -- The elements of commands and lines of the code. No public clause rests on these words.
 use Rattle.std.specs.Prelude.{ℕ, Bool, ◌==◌, List, map, filter, drop}
 use Rattle.xc_base.specs.Names.{place_of}
-use Rattle.xc_sigmap.specs.declared.parts.Stutter.{Stutter}
-use Rattle.xc_sigmap.specs.declared.parts.Told.{Told}
+use Rattle.xc_sigmap_lines.specs.declared.parts.Stutter.{Stutter}
+use Rattle.xc_sigmap_lines.specs.declared.parts.Told.{Told}
 use Rattle.xc_view.specs.Parts.{prop_value}
 use Rattle.xc_view.specs.declared.lines.PropLine.{PropLine}
 use Rattle.xc_view.specs.declared.lines.Command.{Command}

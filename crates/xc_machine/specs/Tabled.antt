@@ -9,7 +9,7 @@ use Rattle.xc_base.specs.Names.{is_among, has_twice}
 use Rattle.xc_forms.specs.Variables.{values_at}
 use Rattle.xc_forms.specs.declared.domain.Domain.{Domain}
 use Rattle.xc_view.specs.ViewFiles.{PropValue}
-use Rattle.xc_sigmap.specs.MapFiles.{MapValue}
+use Rattle.xc_sigmap_lines.specs.MapFiles.{MapValue}
 use Rattle.xc_merge.specs.Merges.{Viewpoint}
 use Rattle.xc_merge.specs.Projections.{source, carried}
 use Rattle.xc_merge.specs.MergedFrames.{stutter_words, line_of}

@@ -13,7 +13,8 @@ use std::alloc::Global;
 use xc_base::{List, Memory, Word, find_name};
 use xc_forms::{Domain, Vars};
 use xc_merge::{carried_word, line_for};
-use xc_sigmap::{SendLine, SigMap};
+use xc_sigmap::SigMap;
+use xc_sigmap_lines::SendLine;
 
 /// The place of a word among some values, and their number where it is not there.
 #[tactic(auto, using(xc_base::proofs::Naming::place_from, crate::proofs::Descending::none_known))]

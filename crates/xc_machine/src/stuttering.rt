@@ -11,7 +11,7 @@ ghost use Rattle.xc_machine.specs.Elements.{stutters_from};
 use crate::elements::element;
 use xc_alg::Algebra;
 use xc_lattice::Lattice;
-use xc_sigmap::Stutter;
+use xc_sigmap_lines::Stutter;
 
 /// A code joined with the value of a line, where the line is on that viewpoint.
 #[tactic(auto, using(std::proofs::lemmas::Grind::common_steps, xc_base::proofs::Naming::among_in_range))]

@@ -16,7 +16,8 @@ use std::alloc::Global;
 use xc_base::{List, Memory};
 use xc_lattice::Lattice;
 use xc_merge::line_of;
-use xc_sigmap::{SigMap, Told};
+use xc_sigmap::SigMap;
+use xc_sigmap_lines::Told;
 use xc_view::{PropLine, View};
 
 /// Whether a line counts for what is told.

@@ -5,9 +5,9 @@ use Rattle.std.specs.List.{list_all, find, flat_map, range_with_len}
 use Rattle.xc_base.specs.Names.{is_among}
 use Rattle.xc_forms.specs.Variables.{values_at}
 use Rattle.xc_forms.specs.declared.domain.Domain.{Domain}
-use Rattle.xc_sigmap.specs.MapFiles.{MapValue}
+use Rattle.xc_sigmap_lines.specs.MapFiles.{MapValue}
 use Rattle.xc_sigmap.specs.Sound.{is_sound, is_send_in}
-use Rattle.xc_sigmap.specs.declared.parts.SendLine.{SendLine}
+use Rattle.xc_sigmap_lines.specs.declared.parts.SendLine.{SendLine}
 use Rattle.xc_merge.specs.Projections.{sends, line_for, carried_word}
 use Rattle.xc_merge.specs.Faults.{carries_all, IsFirstOf}
 use Rattle.xc_merge.specs.Finding.{carries_from, untold_by, untold}

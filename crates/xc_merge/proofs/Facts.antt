@@ -11,11 +11,11 @@ use Rattle.xc_forms.specs.declared.domain.Domain.{Domain}
 use Rattle.xc_view.specs.ViewFiles.{ViewValue, PropValue}
 use Rattle.xc_view.specs.Views.{value_of as view_of}
 use Rattle.xc_view.specs.declared.view.View.{View}
-use Rattle.xc_sigmap.specs.MapFiles.{MapValue}
+use Rattle.xc_sigmap_lines.specs.MapFiles.{MapValue}
 use Rattle.xc_sigmap.specs.Maps.{value_of as map_of}
 use Rattle.xc_sigmap.specs.declared.sigmap.SigMap.{SigMap}
-use Rattle.xc_sigmap.specs.declared.parts.SendLine.{SendLine}
-use Rattle.xc_sigmap.specs.declared.parts.Told.TheVariants.{Named, Constant}
+use Rattle.xc_sigmap_lines.specs.declared.parts.SendLine.{SendLine}
+use Rattle.xc_sigmap_lines.specs.declared.parts.Told.TheVariants.{Named, Constant}
 use Rattle.xc_ctl.specs.Frames.{Frame}
 use Rattle.xc_merge.specs.Merges.{Merge, Viewpoint, nobody, viewpoint_at, name_of, for_each, parts_of, names_of_parts}
 use Rattle.xc_merge.specs.Merging.{merge_in}

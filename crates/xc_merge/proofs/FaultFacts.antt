@@ -4,9 +4,9 @@ use Rattle.std.proofs.lemmas.Bool.{false≢true}
 use Rattle.xc_expr.specs.Tests as tests
 use Rattle.xc_forms.specs.declared.domain.Domain.{Domain}
 use Rattle.xc_view.specs.ViewFiles.{ViewValue}
-use Rattle.xc_sigmap.specs.MapFiles.{MapValue}
-use Rattle.xc_sigmap.specs.declared.parts.SendLine.{SendLine}
-use Rattle.xc_sigmap.specs.declared.parts.Told.TheVariants.{Named, Constant}
+use Rattle.xc_sigmap_lines.specs.MapFiles.{MapValue}
+use Rattle.xc_sigmap_lines.specs.declared.parts.SendLine.{SendLine}
+use Rattle.xc_sigmap_lines.specs.declared.parts.Told.TheVariants.{Named, Constant}
 use Rattle.xc_merge.specs.Merges.{Merge, Viewpoint, nobody}
 use Rattle.xc_merge.specs.MergedFrames.{initials_of}
 use Rattle.xc_merge.specs.Faults.{missing, value_words, value_faults, values_named, unknown_in_line, send_faults, told_faults, tell_faults, stutter_faults, carries_all, is_fed, variable_faults, prop_faults, viewpoint_faults, all_faults, initial_fault, limit_fault, first_of, merge_fault, IsRefusal, IsFirstOf}

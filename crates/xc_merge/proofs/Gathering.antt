@@ -10,12 +10,12 @@ use Rattle.xc_view.specs.ViewFiles.{PropValue, CommandValue, ViewValue}
 use Rattle.xc_view.specs.Parts.{prop_value, command_value}
 use Rattle.xc_view.specs.declared.lines.PropLine.{PropLine}
 use Rattle.xc_view.specs.declared.lines.Command.{Command}
-use Rattle.xc_sigmap.specs.MapFiles.{MapValue, use_names}
-use Rattle.xc_sigmap.specs.declared.parts.Use.{Use}
-use Rattle.xc_sigmap.specs.declared.parts.Carry.{Carry}
-use Rattle.xc_sigmap.specs.declared.parts.SendLine.{SendLine}
-use Rattle.xc_sigmap.specs.declared.parts.Stutter.{Stutter}
-use Rattle.xc_sigmap.specs.declared.parts.Tell.{Tell}
+use Rattle.xc_sigmap_lines.specs.MapFiles.{MapValue, use_names}
+use Rattle.xc_sigmap_lines.specs.declared.parts.Use.{Use}
+use Rattle.xc_sigmap_lines.specs.declared.parts.Carry.{Carry}
+use Rattle.xc_sigmap_lines.specs.declared.parts.SendLine.{SendLine}
+use Rattle.xc_sigmap_lines.specs.declared.parts.Stutter.{Stutter}
+use Rattle.xc_sigmap_lines.specs.declared.parts.Tell.{Tell}
 use Rattle.xc_lattice.specs.declared.lattice.Lattice.{Lattice}
 use Rattle.xc_view.specs.declared.view.View.{View}
 use Rattle.xc_sigmap.specs.declared.sigmap.SigMap.{SigMap}

@@ -5,11 +5,11 @@ use Rattle.xc_theory.specs.Codes.{code_of}
 use Rattle.xc_alg.specs.Products.{sizes}
 use Rattle.xc_base.specs.Names.{place_of}
 use Rattle.xc_view.specs.Meaning.{join_named, step_words, prop_words, is_initial}
-use Rattle.xc_sigmap.specs.MapFiles.{MapValue}
-use Rattle.xc_sigmap.specs.declared.parts.Stutter.{Stutter}
-use Rattle.xc_sigmap.specs.declared.parts.Tell.{Tell}
-use Rattle.xc_sigmap.specs.declared.parts.Told.{Told}
-use Rattle.xc_sigmap.specs.declared.parts.Told.TheVariants.{Named, Constant}
+use Rattle.xc_sigmap_lines.specs.MapFiles.{MapValue}
+use Rattle.xc_sigmap_lines.specs.declared.parts.Stutter.{Stutter}
+use Rattle.xc_sigmap_lines.specs.declared.parts.Tell.{Tell}
+use Rattle.xc_sigmap_lines.specs.declared.parts.Told.{Told}
+use Rattle.xc_sigmap_lines.specs.declared.parts.Told.TheVariants.{Named, Constant}
 use Rattle.xc_ctl.specs.Frames.{Frame}
 use Rattle.xc_merge.specs.Merges.{Merge, Viewpoint, viewpoint_at, for_each, parts_of}
 use Rattle.xc_merge.specs.Projections.{states_of, projection}

@@ -5,7 +5,7 @@ use Rattle.xc_theory.specs.Lattices.{LatticeData}
 use Rattle.xc_lattice.specs.LatticeFiles.{LatticeValue}
 use Rattle.xc_expr.specs.Tests as tests
 use Rattle.xc_view.specs.ViewFiles.{ViewValue}
-use Rattle.xc_sigmap.specs.MapFiles.{MapValue, use_names}
+use Rattle.xc_sigmap_lines.specs.MapFiles.{MapValue, use_names}
 use Rattle.xc_base.specs.Names.{name_at}
 
 -- a viewpoint: its view, and the lattice that the view's values are of

@@ -3,10 +3,10 @@ use Rattle.std.specs.Prelude.{ℕ, Bool, false, Option, Some, None}
 use Rattle.std.specs.Str.{bytes_eq}
 use Rattle.xc_base.specs.Names.{place_of}
 use Rattle.xc_view.specs.ViewFiles.{PropValue, CommandValue}
-use Rattle.xc_sigmap.specs.MapFiles.{MapValue}
-use Rattle.xc_sigmap.specs.declared.parts.Tell.{Tell}
-use Rattle.xc_sigmap.specs.declared.parts.Told.{Told}
-use Rattle.xc_sigmap.specs.declared.parts.Told.TheVariants.{Named, Constant}
+use Rattle.xc_sigmap_lines.specs.MapFiles.{MapValue}
+use Rattle.xc_sigmap_lines.specs.declared.parts.Tell.{Tell}
+use Rattle.xc_sigmap_lines.specs.declared.parts.Told.{Told}
+use Rattle.xc_sigmap_lines.specs.declared.parts.Told.TheVariants.{Named, Constant}
 use Rattle.xc_merge.specs.Merges.{Viewpoint}
 use Rattle.xc_merge.specs.MergedFrames.{join_in, stutter_words, line_of}
 

@@ -5,9 +5,9 @@ use Rattle.xc_theory.specs.Codes.{total, digits, code_of}
 use Rattle.xc_base.specs.Names.{name_at, place_of}
 use Rattle.xc_forms.specs.Variables.{sizes_of, values_at}
 use Rattle.xc_forms.specs.declared.domain.Domain.{Domain}
-use Rattle.xc_sigmap.specs.MapFiles.{MapValue}
-use Rattle.xc_sigmap.specs.declared.parts.Carry.{Carry}
-use Rattle.xc_sigmap.specs.declared.parts.SendLine.{SendLine}
+use Rattle.xc_sigmap_lines.specs.MapFiles.{MapValue}
+use Rattle.xc_sigmap_lines.specs.declared.parts.Carry.{Carry}
+use Rattle.xc_sigmap_lines.specs.declared.parts.SendLine.{SendLine}
 use Rattle.xc_merge.specs.Merges.{Viewpoint}
 
 -- how many states the merged machine has: a state is a code of one place for each variable of the map

@@ -13,7 +13,8 @@ use crate::fault::MergeFault;
 use std::alloc::Global;
 use xc_base::{Word, is_among};
 use xc_forms::Domain;
-use xc_sigmap::{Carry, SendLine, SigMap, Tell};
+use xc_sigmap::SigMap;
+use xc_sigmap_lines::{Carry, SendLine, Tell};
 
 fn is_line_for(line: &SendLine, number: usize, name: &Word) -> bool
     ensures { result ≡ sends number name.now line.now }

@@ -17,7 +17,7 @@ use std::alloc::Global;
 use xc_base::{List, Word};
 use xc_forms::Domain;
 use xc_lattice::Lattice;
-use xc_sigmap::{SendLine, Stutter, Tell, Told};
+use xc_sigmap_lines::{SendLine, Stutter, Tell, Told};
 use xc_view::{PropLine, View};
 
 fn is_called(domain: &Domain, name: &Word) -> bool

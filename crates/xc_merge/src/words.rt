@@ -5,7 +5,7 @@ ghost use Rattle.xc_merge.specs.Finding.{Finds, value_fault, name_fault, prop_va
 use crate::fault::MergeFault;
 use std::alloc::Global;
 use xc_base::{List, Word, is_among};
-use xc_sigmap::Carry;
+use xc_sigmap_lines::Carry;
 use xc_view::{Command, PropLine};
 
 /// Looks for a value among the names of elements.

@@ -14,12 +14,12 @@ use Rattle.xc_alg.proofs.Products.{product_laws}
 use Rattle.xc_base.specs.Formats.{Row, IsAccepted, AreStatements}
 use Rattle.xc_base.specs.Formats.AreStatements.{none, next}
 use Rattle.xc_base.specs.Names.{has_twice, place_of}
-use Rattle.xc_sigmap.specs.MapFiles.{MapValue, map_format}
+use Rattle.xc_sigmap_lines.specs.MapFiles.{MapValue, map_format}
 use Rattle.xc_sigmap.specs.Sound.{is_sound, are_declared, are_told}
-use Rattle.xc_sigmap.specs.declared.statement.Statement.{Statement}
-use Rattle.xc_sigmap.specs.declared.parts.Tell.{Tell}
-use Rattle.xc_sigmap.specs.declared.parts.Told.{Told}
-use Rattle.xc_sigmap.specs.declared.parts.Told.TheVariants.{Named, Constant}
+use Rattle.xc_sigmap_lines.specs.declared.statement.Statement.{Statement}
+use Rattle.xc_sigmap_lines.specs.declared.parts.Tell.{Tell}
+use Rattle.xc_sigmap_lines.specs.declared.parts.Told.{Told}
+use Rattle.xc_sigmap_lines.specs.declared.parts.Told.TheVariants.{Named, Constant}
 use Rattle.xc_sigmap.specs.Drafts.{IsFair}
 use Rattle.xc_sigmap.proofs.Fair.{none_is_fair, next_is_fair}
 use Rattle.xc_sigmap.proofs.Sound.{map_is_sound}

@@ -11,10 +11,10 @@ use Rattle.xc_forms.specs.Variables.{names_of, sizes_of}
 use Rattle.xc_forms.specs.declared.domain.Domain.{Domain}
 use Rattle.xc_forms.specs.VariableLines.{is_var_again, var_excess}
 use Rattle.xc_forms.proofs.FaultlessLines.{all_push, below_limit, same_declared, once_new as kept_once, few_new, sized_new}
-use Rattle.xc_sigmap.specs.declared.parts.Use as viewpoints
-use Rattle.xc_sigmap.specs.declared.statement.Statement.{Statement}
-use Rattle.xc_sigmap.specs.declared.statement.Statement.TheVariants.{Map, Use, Var, Prop, Send, Tell, Stutter}
-use Rattle.xc_sigmap.specs.MapFiles.{is_late, may_follow, last_of, is_due, has_names, uses_of, vars_of, props_of, use_names, carried_names, values_named, says_again, has_use, has_source, is_repeated, is_unknown, use_limit, prop_limit, use_in, var_in, prop_in, excess_of, map_format}
+use Rattle.xc_sigmap_lines.specs.declared.parts.Use as viewpoints
+use Rattle.xc_sigmap_lines.specs.declared.statement.Statement.{Statement}
+use Rattle.xc_sigmap_lines.specs.declared.statement.Statement.TheVariants.{Map, Use, Var, Prop, Send, Tell, Stutter}
+use Rattle.xc_sigmap_lines.specs.MapFiles.{is_late, may_follow, last_of, is_due, has_names, uses_of, vars_of, props_of, use_names, carried_names, values_named, says_again, has_use, has_source, is_repeated, is_unknown, use_limit, prop_limit, use_in, var_in, prop_in, excess_of, map_format}
 use Rattle.xc_sigmap.specs.Sound.{has_two}
 use Rattle.xc_sigmap.specs.Drafts.{begins, ends_late, is_known, IsFair}
 

@@ -10,9 +10,9 @@ use Rattle.xc_base.specs.Names.{is_among, has_twice, place_of}
 use Rattle.xc_base.proofs.Naming.{among_in_range}
 use Rattle.xc_forms.specs.Variables.{names_of, values_at}
 use Rattle.xc_forms.specs.declared.domain.Domain.{Domain}
-use Rattle.xc_sigmap.specs.declared.parts.Use.{Use}
-use Rattle.xc_sigmap.specs.declared.statement.Pair.{Pair}
-use Rattle.xc_sigmap.specs.MapFiles.{use_names, carried_names, values_named}
+use Rattle.xc_sigmap_lines.specs.declared.parts.Use.{Use}
+use Rattle.xc_sigmap_lines.specs.declared.statement.Pair.{Pair}
+use Rattle.xc_sigmap_lines.specs.MapFiles.{use_names, carried_names, values_named}
 
 -- where the first of mapped items passes
 position_or_len-map : {X Y : Type 0} (p : Y → Bool) (f : X → Y) (xs : List X) → position_or_len p (map f xs) ≡ position_or_len (λ (x : X). p (f x)) xs

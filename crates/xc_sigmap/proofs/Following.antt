@@ -1,7 +1,7 @@
 -- What may stand behind statements, and what they lack.
 use Rattle.std.proofs.Common.{◌≡◌, ℕ, ◌-◌, ◌≤◌, List, [], ◌∷◌, length, get_or, refl, ap, sym, ◌∙◌, arith}
-use Rattle.xc_sigmap.specs.declared.statement.Statement.{Statement}
-use Rattle.xc_sigmap.specs.MapFiles.{is_due, may_follow, last_of, missing_part, later_part}
+use Rattle.xc_sigmap_lines.specs.declared.statement.Statement.{Statement}
+use Rattle.xc_sigmap_lines.specs.MapFiles.{is_due, may_follow, last_of, missing_part, later_part}
 
 -- the last statement stands at the last place
 last_at : (s : Statement) (more : List Statement) (d : Statement) → get_or (s ∷ more) (length more) d ≡ last_of s more

@@ -2,11 +2,11 @@
 use Rattle.std.proofs.Common.{◌≡◌, ℕ, ◌≤◌, true, List, [], ◌∷◌, length, get_or, None, sym, ◌∙◌, ap, subst, arith}
 use Rattle.xc_sigmap.specs.declared.draft.Draft.{Draft}
 use Rattle.xc_sigmap.specs.declared.names.Names.{Names}
-use Rattle.xc_sigmap.specs.declared.parts.SendLine.{SendLine}
-use Rattle.xc_sigmap.specs.declared.parts.Tell.{Tell}
-use Rattle.xc_sigmap.specs.declared.parts.Stutter.{Stutter}
-use Rattle.xc_sigmap.specs.declared.statement.Statement.{Statement}
-use Rattle.xc_sigmap.specs.MapFiles.{MapValue, vars_of, first_name, sends_of, tells_of, stutters_of, missing_part, map_of}
+use Rattle.xc_sigmap_lines.specs.declared.parts.SendLine.{SendLine}
+use Rattle.xc_sigmap_lines.specs.declared.parts.Tell.{Tell}
+use Rattle.xc_sigmap_lines.specs.declared.parts.Stutter.{Stutter}
+use Rattle.xc_sigmap_lines.specs.declared.statement.Statement.{Statement}
+use Rattle.xc_sigmap_lines.specs.MapFiles.{MapValue, vars_of, first_name, sends_of, tells_of, stutters_of, missing_part, map_of}
 use Rattle.xc_sigmap.specs.Sound.{is_sound}
 use Rattle.xc_sigmap.specs.Drafts.{begins}
 use Rattle.xc_sigmap.specs.Drafted.{named_in, AreFew}

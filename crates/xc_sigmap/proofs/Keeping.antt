@@ -1,8 +1,8 @@
 -- Drafts with one statement more.
 use Rattle.std.proofs.Common.{◌≡◌, List, [], ◌∷◌, ◌++◌, sym, subst}
 use Rattle.xc_sigmap.specs.declared.names.Names.{Names}
-use Rattle.xc_sigmap.specs.declared.statement.Statement.{Statement}
-use Rattle.xc_sigmap.specs.MapFiles.{uses_of, vars_of, props_of}
+use Rattle.xc_sigmap_lines.specs.declared.statement.Statement.{Statement}
+use Rattle.xc_sigmap_lines.specs.MapFiles.{uses_of, vars_of, props_of}
 use Rattle.xc_sigmap.specs.Drafts.{IsFair}
 use Rattle.xc_sigmap.specs.Drafted.{named_in}
 use Rattle.xc_sigmap.proofs.Fair.{uses_append, vars_append, props_append}

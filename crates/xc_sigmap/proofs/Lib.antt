@@ -1,13 +1,10 @@
-pub mod Tokens
-pub mod Pairs
 pub mod Finding
 pub mod Following
-pub mod Facts
 pub mod Fair
-pub mod Deciding
 pub mod Reading
 pub mod Gathering
 pub mod Sound
 pub mod Gathered
 pub mod Verdicts
 pub mod Keeping
+pub mod Facts

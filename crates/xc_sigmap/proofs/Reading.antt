@@ -10,11 +10,11 @@ use Rattle.xc_base.specs.Lines.{row_at}
 use Rattle.xc_base.proofs.Rows.{row_first}
 use Rattle.xc_base.proofs.Deciding.{statements_of-end, statements_of-next, statements_of-stops, line_sound}
 use Rattle.xc_sigmap.specs.Drafts.{IsFair}
-use Rattle.xc_sigmap.specs.declared.statement.Statement.{Statement}
+use Rattle.xc_sigmap_lines.specs.declared.statement.Statement.{Statement}
 use Rattle.xc_sigmap.proofs.Fair.{next_is_fair}
-use Rattle.xc_sigmap.proofs.Deciding.{decides}
-use Rattle.xc_sigmap.specs.MapFiles.{map_format}
-use Rattle.xc_sigmap.specs.Deciding.{decide}
+use Rattle.xc_sigmap_lines.proofs.Deciding.{decides}
+use Rattle.xc_sigmap_lines.specs.MapFiles.{map_format}
+use Rattle.xc_sigmap_lines.specs.Deciding.{decide}
 
 -- a row that is read gives one more fair statement
 pub row_is_fair : (before : List Statement) (row : Row) (s : Statement) → IsFair before → line_of map_format decide before row ≡ Ok s → IsFair (before ++ s ∷ [])

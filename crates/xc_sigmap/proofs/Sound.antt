@@ -14,16 +14,16 @@ use Rattle.xc_forms.specs.Variables.{names_of, values_at}
 use Rattle.xc_forms.specs.VariableNames.{is_variable_name, is_value_name}
 use Rattle.xc_forms.specs.declared.domain.Domain.{Domain}
 use Rattle.xc_forms.specs.VariableLines.{is_named_var}
-use Rattle.xc_sigmap.specs.declared.parts.Use as viewpoints
-use Rattle.xc_sigmap.specs.declared.parts.Carry.{Carry}
-use Rattle.xc_sigmap.specs.declared.parts.SendLine.{SendLine}
-use Rattle.xc_sigmap.specs.declared.parts.Tell as tellings
-use Rattle.xc_sigmap.specs.declared.parts.Told.{Told}
-use Rattle.xc_sigmap.specs.declared.parts.Stutter as gaps
-use Rattle.xc_sigmap.specs.declared.statement.Pair.{Pair}
-use Rattle.xc_sigmap.specs.declared.statement.Statement.{Statement}
-use Rattle.xc_sigmap.specs.declared.statement.Statement.TheVariants.{Map, Use, Var, Prop, Send, Tell, Stutter}
-use Rattle.xc_sigmap.specs.MapFiles.{MapValue, has_names, is_named_pair, is_prop_name, told_word, uses_of, vars_of, props_of, use_names, carried_names, values_named, says_again, use_limit, prop_limit, missing_part, first_name, carry, sends_of, tells_of, stutters_of, map_of}
+use Rattle.xc_sigmap_lines.specs.declared.parts.Use as viewpoints
+use Rattle.xc_sigmap_lines.specs.declared.parts.Carry.{Carry}
+use Rattle.xc_sigmap_lines.specs.declared.parts.SendLine.{SendLine}
+use Rattle.xc_sigmap_lines.specs.declared.parts.Tell as tellings
+use Rattle.xc_sigmap_lines.specs.declared.parts.Told.{Told}
+use Rattle.xc_sigmap_lines.specs.declared.parts.Stutter as gaps
+use Rattle.xc_sigmap_lines.specs.declared.statement.Pair.{Pair}
+use Rattle.xc_sigmap_lines.specs.declared.statement.Statement.{Statement}
+use Rattle.xc_sigmap_lines.specs.declared.statement.Statement.TheVariants.{Map, Use, Var, Prop, Send, Tell, Stutter}
+use Rattle.xc_sigmap_lines.specs.MapFiles.{MapValue, has_names, is_named_pair, is_prop_name, told_word, uses_of, vars_of, props_of, use_names, carried_names, values_named, says_again, use_limit, prop_limit, missing_part, first_name, carry, sends_of, tells_of, stutters_of, map_of}
 use Rattle.xc_sigmap.specs.Sound.{has_two, is_named_use, same_value, same_send, same_tell, same_stutter, is_carry_in, is_send_in, is_tell_in, is_stutter_in, are_declared, are_told, is_sound}
 use Rattle.xc_sigmap.specs.Drafts.{begins, is_known, IsFair}
 use Rattle.xc_forms.proofs.Sizes.{fit_from_sized}

@@ -8,14 +8,14 @@ use Rattle.xc_base.specs.Formats.{Row, IsAccepted, IsFirstFault}
 use Rattle.xc_base.specs.Deciding.{file_of}
 use Rattle.xc_base.specs.Judging.{AreWhole}
 use Rattle.xc_base.proofs.Deciding.{gives_statements, gives_faults, statements_are_unique, first_faults_are_unique, accepted_has_no_fault, each_is_judged}
-use Rattle.xc_sigmap.specs.MapFiles.{MapValue, missing_part, map_of, map_format}
-use Rattle.xc_sigmap.specs.declared.statement.Statement.{Statement}
-use Rattle.xc_sigmap.specs.Deciding.{decide}
+use Rattle.xc_sigmap_lines.specs.MapFiles.{MapValue, missing_part, map_of, map_format}
+use Rattle.xc_sigmap_lines.specs.declared.statement.Statement.{Statement}
+use Rattle.xc_sigmap_lines.specs.Deciding.{decide}
 use Rattle.xc_sigmap.specs.Laws.{MapsAreUnique, FaultsAreUnique, AcceptedHasNoFault, EachIsJudged}
 use Rattle.xc_sigmap.specs.Drafts.{GivesAs}
 use Rattle.xc_sigmap.specs.Maps.{IsStop}
 use Rattle.xc_sigmap.specs.declared.sigmap.SigMap.{SigMap}
-use Rattle.xc_sigmap.proofs.Deciding.{decides}
+use Rattle.xc_sigmap_lines.proofs.Deciding.{decides}
 
 -- a whole file lacks no part
 pub none_is_missing : (rows : List Row) (ss : List Statement) → file_of map_format decide rows ≡ Ok ss → missing_part ss ≡ None

@@ -3,8 +3,8 @@
 use Rattle.std.specs.Prelude.{◌≡◌, ◌≤◌, Bool, true, List, length}
 use Rattle.xc_forms.specs.Variables.{are_fit}
 use Rattle.xc_sigmap.specs.declared.names.Names.{Names}
-use Rattle.xc_sigmap.specs.declared.statement.Statement.{Statement}
-use Rattle.xc_sigmap.specs.MapFiles.{uses_of, vars_of, props_of, use_limit, prop_limit}
+use Rattle.xc_sigmap_lines.specs.declared.statement.Statement.{Statement}
+use Rattle.xc_sigmap_lines.specs.MapFiles.{uses_of, vars_of, props_of, use_limit, prop_limit}
 use Rattle.xc_sigmap.specs.Drafts as drafts
 
 -- what statements declare

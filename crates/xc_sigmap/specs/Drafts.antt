@@ -9,10 +9,10 @@ use Rattle.xc_base.specs.declared.fault.Stop.TheVariants.{File, Memory}
 use Rattle.xc_forms.specs.Variables.{names_of}
 use Rattle.xc_forms.specs.declared.domain.Domain.{Domain}
 use Rattle.xc_forms.specs.FaultlessLines.{AreSized}
-use Rattle.xc_sigmap.specs.declared.parts.Use as viewpoints
-use Rattle.xc_sigmap.specs.declared.statement.Statement.{Statement}
-use Rattle.xc_sigmap.specs.declared.statement.Statement.TheVariants.{Map, Use, Var, Prop, Send, Tell, Stutter}
-use Rattle.xc_sigmap.specs.MapFiles.{is_map, is_late, last_of, has_names, uses_of, vars_of, props_of, use_names, carried_names, values_named, says_again, use_limit, prop_limit}
+use Rattle.xc_sigmap_lines.specs.declared.parts.Use as viewpoints
+use Rattle.xc_sigmap_lines.specs.declared.statement.Statement.{Statement}
+use Rattle.xc_sigmap_lines.specs.declared.statement.Statement.TheVariants.{Map, Use, Var, Prop, Send, Tell, Stutter}
+use Rattle.xc_sigmap_lines.specs.MapFiles.{is_map, is_late, last_of, has_names, uses_of, vars_of, props_of, use_names, carried_names, values_named, says_again, use_limit, prop_limit}
 use Rattle.xc_sigmap.specs.Sound.{has_two}
 
 -- the first is the name

@@ -2,7 +2,7 @@
 use Rattle.std.specs.Prelude.{◌≡◌, List, ◌⊎◌}
 use Rattle.xc_base.specs.declared.fault.FileFault.{FileFault}
 use Rattle.xc_base.specs.Formats.{Row, IsAccepted, IsFirstFault}
-use Rattle.xc_sigmap.specs.MapFiles.{MapValue, map_format}
+use Rattle.xc_sigmap_lines.specs.MapFiles.{MapValue, map_format}
 
 -- no file says two maps
 abbrev pub MapsAreUnique : Type 0

@@ -1,7 +1,5 @@
-pub mod MapFiles
 pub mod Sound
 pub mod Maps
-pub mod Deciding
 pub mod Laws
 pub mod Drafts
 pub mod Drafted

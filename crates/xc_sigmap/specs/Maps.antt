@@ -3,7 +3,7 @@ use Rattle.std.specs.Prelude.{List}
 use Rattle.xc_base.specs.Formats.{Row, IsFirstFault}
 use Rattle.xc_base.specs.declared.fault.Stop.{Stop}
 use Rattle.xc_base.specs.declared.fault.Stop.TheVariants.{File, Memory}
-use Rattle.xc_sigmap.specs.MapFiles.{MapValue, map_format}
+use Rattle.xc_sigmap_lines.specs.MapFiles.{MapValue, map_format}
 use Rattle.xc_sigmap.specs.declared.sigmap.SigMap.{SigMap}
 
 -- what a map is

@@ -6,12 +6,12 @@ use Rattle.xc_base.specs.Names.{has_twice}
 use Rattle.xc_base.specs.Words.{is_name, is_file_word}
 use Rattle.xc_forms.specs.Variables.{values_at, are_fit}
 use Rattle.xc_forms.specs.VariableLines.{is_named_var}
-use Rattle.xc_sigmap.specs.declared.parts.Use.{Use}
-use Rattle.xc_sigmap.specs.declared.parts.Carry.{Carry}
-use Rattle.xc_sigmap.specs.declared.parts.SendLine.{SendLine}
-use Rattle.xc_sigmap.specs.declared.parts.Tell.{Tell}
-use Rattle.xc_sigmap.specs.declared.parts.Stutter.{Stutter}
-use Rattle.xc_sigmap.specs.MapFiles.{MapValue, is_prop_name, told_word, use_names, use_limit, prop_limit}
+use Rattle.xc_sigmap_lines.specs.declared.parts.Use.{Use}
+use Rattle.xc_sigmap_lines.specs.declared.parts.Carry.{Carry}
+use Rattle.xc_sigmap_lines.specs.declared.parts.SendLine.{SendLine}
+use Rattle.xc_sigmap_lines.specs.declared.parts.Tell.{Tell}
+use Rattle.xc_sigmap_lines.specs.declared.parts.Stutter.{Stutter}
+use Rattle.xc_sigmap_lines.specs.MapFiles.{MapValue, is_prop_name, told_word, use_names, use_limit, prop_limit}
 
 -- whether one of the items says again what an earlier one said
 abbrev pub has_two : {X : Type 0} → (X → X → Bool) → List X → Bool

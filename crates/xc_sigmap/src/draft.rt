@@ -3,9 +3,9 @@ ghost use Rattle.xc_sigmap.specs.Drafts.{IsFair};
 ghost use Rattle.xc_sigmap.specs.Drafted.{named_in};
 
 use crate::names::Names;
-use crate::statement::Statement;
 use std::alloc::Global;
 use xc_base::{List, Memory};
+use xc_sigmap_lines::Statement;
 
 /// Faultless statements of a file, with what they declare.
 #[derive(Debug, Drop)]

@@ -1,8 +1,8 @@
 ghost use Rattle.std.specs.Prelude.{◌≡◌};
-ghost use Rattle.xc_sigmap.specs.MapFiles.{is_late, may_follow, is_due};
+ghost use Rattle.xc_sigmap_lines.specs.MapFiles.{is_late, may_follow, is_due};
 
 use crate::draft::Draft;
-use crate::statement::Statement;
+use xc_sigmap_lines::Statement;
 
 fn is_late(s: &Statement) -> bool
     ensures { result ≡ is_late s.now }

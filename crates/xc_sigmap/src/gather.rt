@@ -2,19 +2,18 @@ ghost use Rattle.std.specs.Prelude.{◌≡◌, ◌<◌, ◌≤◌, ◌++◌, ◌
 ghost use Rattle.std.specs.List.{list_all};
 ghost use Rattle.xc_base.specs.Names.{is_among, place_of};
 ghost use Rattle.xc_forms.specs.Variables.{names_of};
-ghost use Rattle.xc_sigmap.specs.MapFiles.{is_map, use_names, carried_names, carry, first_name, sends_of, tells_of, stutters_of, map_of, missing_part, use_limit, prop_limit};
+ghost use Rattle.xc_sigmap_lines.specs.MapFiles.{is_map, use_names, carried_names, carry, first_name, sends_of, tells_of, stutters_of, map_of, missing_part, use_limit, prop_limit};
 ghost use Rattle.xc_sigmap.specs.Maps.{value_of};
 ghost use Rattle.xc_sigmap.specs.Drafted.{is_known, AreFew};
 
 use crate::draft::Draft;
 use crate::lookup::find_use;
 use crate::names::Names;
-use crate::parts::{Carry, SendLine, Stutter, Tell, Told, Use};
 use crate::sigmap::SigMap;
-use crate::statement::{Pair, Statement};
 use std::alloc::Global;
 use xc_base::{List, Memory, Word, find_name};
 use xc_forms::{Domain, find_var};
+use xc_sigmap_lines::{Carry, Pair, SendLine, Statement, Stutter, Tell, Told, Use};
 
 fn map_name(alloc: Global, s: &Statement) -> Result<Word, Memory>
     requires { is_map s.now ≡ true }

@@ -4,16 +4,15 @@ ghost use Rattle.std.specs.Str.{bytes_eq};
 ghost use Rattle.xc_base.specs.Deciding.{statement_fault};
 ghost use Rattle.xc_base.specs.Names.{is_among, has_twice};
 ghost use Rattle.xc_forms.specs.Variables.{names_of};
-ghost use Rattle.xc_sigmap.specs.MapFiles.{use_names, carried_names, values_named, says_again, is_repeated, is_unknown, map_format};
+ghost use Rattle.xc_sigmap_lines.specs.MapFiles.{use_names, carried_names, values_named, says_again, is_repeated, is_unknown, map_format};
 
 use crate::draft::Draft;
 use crate::limits::limit_fault;
 use crate::lookup::find_use;
 use crate::names::Names;
-use crate::parts::Use;
-use crate::statement::{Pair, Statement};
 use xc_base::{FileFault, Word, is_among};
 use xc_forms::{Domain, find_var, is_var_again};
+use xc_sigmap_lines::{Pair, Statement, Use};
 
 /// Whether there is a viewpoint of the name.
 #[tactic(auto, using(crate::proofs::Finding::found_is_among, crate::proofs::Finding::none_is_among))]

@@ -1,11 +1,11 @@
 ghost use Rattle.std.specs.Prelude.{◌≡◌};
 ghost use Rattle.xc_base.specs.Deciding.{excess_fault};
-ghost use Rattle.xc_sigmap.specs.MapFiles.{excess_of};
+ghost use Rattle.xc_sigmap_lines.specs.MapFiles.{excess_of};
 
 use crate::draft::Draft;
-use crate::statement::Statement;
 use xc_base::{Counted, FileFault};
 use xc_forms::{line_fault, var_fault};
+use xc_sigmap_lines::Statement;
 
 /// The limit that a statement passes after those of a draft.
 pub(crate) fn limit_fault(draft: &Draft, s: &Statement, line: u32) -> Option<FileFault>

@@ -3,10 +3,10 @@
 ghost use Rattle.std.specs.Prelude.{◌≡◌, ◌<◌, IfSome, length};
 ghost use Rattle.std.specs.List.{position, list_any};
 ghost use Rattle.std.specs.Str.{bytes_eq};
-ghost use Rattle.xc_sigmap.specs.MapFiles.{use_names};
+ghost use Rattle.xc_sigmap_lines.specs.MapFiles.{use_names};
 
-use crate::parts::Use;
 use xc_base::Word;
+use xc_sigmap_lines::Use;
 
 fn is_use_of(declared: &Use, name: &Word) -> bool
     ensures { result ≡ bytes_eq name.now declared.now.name }

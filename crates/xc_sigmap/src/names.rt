@@ -1,11 +1,10 @@
 ghost use Rattle.std.specs.Prelude.{◌≡◌, ◌++◌, ◌∷◌, [], IfOk, OnOk};
-ghost use Rattle.xc_sigmap.specs.MapFiles.{uses_of, vars_of, props_of};
+ghost use Rattle.xc_sigmap_lines.specs.MapFiles.{uses_of, vars_of, props_of};
 
-use crate::parts::Use;
-use crate::statement::Statement;
 use std::alloc::Global;
 use xc_base::{List, Memory, Word};
 use xc_forms::{Vars, copy_domain};
+use xc_sigmap_lines::{Statement, Use};
 
 /// What statements declare, and others name.
 #[derive(Debug, Drop)]

@@ -1,7 +1,7 @@
 ghost use Rattle.std.specs.Prelude.{IfOk, IfErr};
 ghost use Rattle.xc_base.specs.Formats.{IsAccepted};
 ghost use Rattle.xc_base.specs.Lines.{rows_in};
-ghost use Rattle.xc_sigmap.specs.MapFiles.{map_format};
+ghost use Rattle.xc_sigmap_lines.specs.MapFiles.{map_format};
 ghost use Rattle.xc_sigmap.specs.Maps.{value_of, IsStop};
 
 use crate::gather::gather;

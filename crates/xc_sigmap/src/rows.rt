@@ -1,21 +1,20 @@
 ghost use Rattle.std.specs.Prelude.{◌≡◌, ◌<◌, true, [], length, IfOk, IfSome};
 ghost use Rattle.xc_base.specs.Deciding.{line_of, statements_of, file_of, Gives};
 ghost use Rattle.xc_base.specs.Lines.{texts, rows_in, row_at};
-ghost use Rattle.xc_sigmap.specs.MapFiles.{is_due, missing_part, map_format};
-ghost use Rattle.xc_sigmap.specs.Deciding.{decide};
+ghost use Rattle.xc_sigmap_lines.specs.MapFiles.{is_due, missing_part, map_format};
+ghost use Rattle.xc_sigmap_lines.specs.Deciding.{decide};
 ghost use Rattle.xc_sigmap.specs.Drafts.{GivesAs};
 ghost use Rattle.xc_sigmap.specs.Kept.{drafted};
 
-use crate::decide::line;
 use crate::draft::Draft;
 use crate::due::is_due;
 use crate::judge::judge;
-use crate::statement::Statement;
 use std::alloc::Global;
 use xc_base::{FileFault, Lexeme, Lines, Memory, Part, Stop};
+use xc_sigmap_lines::{Statement, line};
 
 /// The statement that a row of these tokens is after those of a draft, where it is one.
-#[tactic(auto, unfolding(crate::specs::Deciding::decide))]
+#[tactic(auto, unfolding(xc_sigmap_lines::specs::Deciding::decide))]
 fn decide(alloc: Global, draft: &Draft, tokens: &[Lexeme]) -> Result<Option<Statement>, Memory>
     ensures { IfOk result (λ s. s ≡ decide draft.now.statements (texts tokens.now)) }
 {

@@ -1,9 +1,9 @@
 ghost use Rattle.std.specs.Prelude.{◌≡◌, true};
 ghost use Rattle.xc_sigmap.specs.Sound.{is_sound};
 
-use crate::parts::{SendLine, Stutter, Tell, Use};
 use xc_base::{List, Word};
 use xc_forms::Vars;
+use xc_sigmap_lines::{SendLine, Stutter, Tell, Use};
 
 /// Which viewpoints are merged, over which variables and propositions, and what each viewpoint sends and tells.
 ///

@@ -6,9 +6,9 @@ use xc_base::{FileKind, files_are_judged_once};
 pub struct MapFiles;
 
 impl FileKind for MapFiles {
-    ghost use Rattle.xc_sigmap.specs.MapFiles.{MapValue, map_format};
-    ghost use Rattle.xc_sigmap.specs.declared.statement.Statement.{Statement as Stated};
-    ghost use Rattle.xc_sigmap.specs.Deciding.{decide};
+    ghost use Rattle.xc_sigmap_lines.specs.MapFiles.{MapValue, map_format};
+    ghost use Rattle.xc_sigmap_lines.specs.declared.statement.Statement.{Statement as Stated};
+    ghost use Rattle.xc_sigmap_lines.specs.Deciding.{decide};
 
     ghost Statement = { Stated };
 

@@ -13,12 +13,12 @@ use Rattle.xc_forms.specs.Variables.{names_of, sizes_of, is_domain, state_limit}
 use Rattle.xc_forms.specs.declared.domain.Domain.{Domain}
 use Rattle.xc_forms.specs.VariableLines.{is_named_var}
 use Rattle.xc_forms.proofs.Restating.{are_statements, faultless_join}
-use Rattle.xc_sigmap.specs.declared.parts.Use as viewpoints
-use Rattle.xc_sigmap.specs.declared.parts.Tell as tellings
-use Rattle.xc_sigmap.specs.declared.parts.Stutter as gaps
-use Rattle.xc_sigmap.specs.declared.statement.Statement.{Statement}
-use Rattle.xc_sigmap.specs.declared.statement.Statement.TheVariants.{Map, Use, Var, Prop, Send, Tell, Stutter}
-use Rattle.xc_sigmap.specs.MapFiles.{MapValue, spelling, is_prop_name, is_late, may_follow, uses_of, vars_of, props_of, use_names, sends_of, tells_of, stutters_of, says_again, use_limit, prop_limit, missing_part, first_name, map_of, map_format}
+use Rattle.xc_sigmap_lines.specs.declared.parts.Use as viewpoints
+use Rattle.xc_sigmap_lines.specs.declared.parts.Tell as tellings
+use Rattle.xc_sigmap_lines.specs.declared.parts.Stutter as gaps
+use Rattle.xc_sigmap_lines.specs.declared.statement.Statement.{Statement}
+use Rattle.xc_sigmap_lines.specs.declared.statement.Statement.TheVariants.{Map, Use, Var, Prop, Send, Tell, Stutter}
+use Rattle.xc_sigmap_lines.specs.MapFiles.{MapValue, spelling, is_prop_name, is_late, may_follow, uses_of, vars_of, props_of, use_names, sends_of, tells_of, stutters_of, says_again, use_limit, prop_limit, missing_part, first_name, map_of, map_format}
 use Rattle.xc_sigmap.specs.Sound.{has_two, is_named_use, is_send_in, is_tell_in, is_stutter_in, same_send, same_tell, same_stutter, are_declared, are_told, is_sound}
 use Rattle.xc_sigmap_text.specs.Printing.{sending, telling, stuttering, statements_in, map_lines}
 use Rattle.xc_sigmap.proofs.Fair.{uses_append, vars_append, props_append}

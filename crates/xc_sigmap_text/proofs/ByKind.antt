@@ -3,13 +3,13 @@ use Rattle.std.proofs.Common.{◌≡◌, ℕ, ◌<◌, Bool, true, false, List, 
 use Rattle.std.specs.List.{list_any}
 use Rattle.std.proofs.lemmas.List.{append-nil}
 use Rattle.xc_forms.specs.declared.domain.Domain.{Domain}
-use Rattle.xc_sigmap.specs.declared.parts.Use as viewpoints
-use Rattle.xc_sigmap.specs.declared.parts.SendLine.{SendLine}
-use Rattle.xc_sigmap.specs.declared.parts.Tell as tellings
-use Rattle.xc_sigmap.specs.declared.parts.Stutter as gaps
-use Rattle.xc_sigmap.specs.declared.statement.Statement.{Statement}
-use Rattle.xc_sigmap.specs.declared.statement.Statement.TheVariants.{Map, Use, Var, Prop}
-use Rattle.xc_sigmap.specs.MapFiles.{MapValue, may_follow, is_due, uses_of, vars_of, props_of, sends_of, tells_of, stutters_of}
+use Rattle.xc_sigmap_lines.specs.declared.parts.Use as viewpoints
+use Rattle.xc_sigmap_lines.specs.declared.parts.SendLine.{SendLine}
+use Rattle.xc_sigmap_lines.specs.declared.parts.Tell as tellings
+use Rattle.xc_sigmap_lines.specs.declared.parts.Stutter as gaps
+use Rattle.xc_sigmap_lines.specs.declared.statement.Statement.{Statement}
+use Rattle.xc_sigmap_lines.specs.declared.statement.Statement.TheVariants.{Map, Use, Var, Prop}
+use Rattle.xc_sigmap_lines.specs.MapFiles.{MapValue, may_follow, is_due, uses_of, vars_of, props_of, sends_of, tells_of, stutters_of}
 use Rattle.xc_sigmap_text.specs.Printing.{sending, telling, stuttering, statements_in}
 use Rattle.xc_sigmap.proofs.Gathering.{sends_cons, tells_cons, stutters_cons}
 use Rattle.xc_sigmap.proofs.Fair.{uses_append, vars_append, props_append}

@@ -10,10 +10,10 @@ use Rattle.xc_forms.specs.declared.domain.Domain.{Domain}
 use Rattle.xc_forms.specs.VariableLines.{is_named_var}
 use Rattle.xc_forms.proofs.Restating.{not_before, no_excess}
 use Rattle.xc_forms.proofs.Restating as forms
-use Rattle.xc_sigmap.specs.declared.parts.Use as viewpoints
-use Rattle.xc_sigmap.specs.declared.statement.Statement.{Statement}
-use Rattle.xc_sigmap.specs.declared.statement.Statement.TheVariants.{Use, Var, Prop}
-use Rattle.xc_sigmap.specs.MapFiles.{is_due, is_prop_name, uses_of, vars_of, props_of, use_names, use_limit, prop_limit, spelling, var_in, map_format}
+use Rattle.xc_sigmap_lines.specs.declared.parts.Use as viewpoints
+use Rattle.xc_sigmap_lines.specs.declared.statement.Statement.{Statement}
+use Rattle.xc_sigmap_lines.specs.declared.statement.Statement.TheVariants.{Use, Var, Prop}
+use Rattle.xc_sigmap_lines.specs.MapFiles.{is_due, is_prop_name, uses_of, vars_of, props_of, use_names, use_limit, prop_limit, spelling, var_in, map_format}
 use Rattle.xc_sigmap.specs.Sound.{is_named_use}
 use Rattle.xc_sigmap.proofs.Fair.{uses_append, props_append}
 use Rattle.xc_sigmap_text.proofs.Restating.{AreFaultless, due_after}

@@ -12,14 +12,14 @@ use Rattle.xc_forms.specs.VariableLines.{var_tokens}
 use Rattle.xc_forms.specs.PrintedLines.{printed}
 use Rattle.xc_forms.specs.PrintedLines as forms
 use Rattle.xc_forms.proofs.PrintedLines.{written_from, written_end, written_before, vars_written}
-use Rattle.xc_sigmap.specs.declared.parts.Use as viewpoints
-use Rattle.xc_sigmap.specs.declared.parts.Carry.{Carry}
-use Rattle.xc_sigmap.specs.declared.parts.SendLine.{SendLine}
-use Rattle.xc_sigmap.specs.declared.parts.Tell as tellings
-use Rattle.xc_sigmap.specs.declared.parts.Stutter as gaps
-use Rattle.xc_sigmap.specs.declared.statement.Statement.{Statement}
-use Rattle.xc_sigmap.specs.declared.statement.Statement.TheVariants.{Map, Use, Var, Prop}
-use Rattle.xc_sigmap.specs.MapFiles.{MapValue, spelling, pair_tokens, use_names}
+use Rattle.xc_sigmap_lines.specs.declared.parts.Use as viewpoints
+use Rattle.xc_sigmap_lines.specs.declared.parts.Carry.{Carry}
+use Rattle.xc_sigmap_lines.specs.declared.parts.SendLine.{SendLine}
+use Rattle.xc_sigmap_lines.specs.declared.parts.Tell as tellings
+use Rattle.xc_sigmap_lines.specs.declared.parts.Stutter as gaps
+use Rattle.xc_sigmap_lines.specs.declared.statement.Statement.{Statement}
+use Rattle.xc_sigmap_lines.specs.declared.statement.Statement.TheVariants.{Map, Use, Var, Prop}
+use Rattle.xc_sigmap_lines.specs.MapFiles.{MapValue, spelling, pair_tokens, use_names}
 use Rattle.xc_sigmap.specs.Sound.{is_carry_in, is_send_in, is_tell_in, is_stutter_in, are_declared, are_told, is_sound}
 use Rattle.xc_sigmap_text.specs.Printing.{use_at, paired, sending, telling, stuttering, map_lines}
 use Rattle.xc_sigmap_text.specs.Written.{written}

@@ -9,16 +9,16 @@ use Rattle.xc_base.specs.Lines.{text_rows}
 use Rattle.xc_base.specs.Text.{joins}
 use Rattle.xc_base.proofs.CanonicalTexts.{canonical_is_cut}
 use Rattle.xc_forms.specs.VariableNames.{is_variable_name, is_value_name}
-use Rattle.xc_sigmap.specs.declared.parts.Told.TheVariants.{Named, Constant}
-use Rattle.xc_sigmap.specs.declared.statement.Pair.{Pair}
-use Rattle.xc_sigmap.specs.declared.statement.Statement.{Statement}
-use Rattle.xc_sigmap.specs.declared.statement.Statement.TheVariants.{Map, Use, Var, Prop, Send, Tell, Stutter}
-use Rattle.xc_sigmap.specs.MapFiles.{MapValue, spelling, has_names, is_named_pair, pair_tokens, map_format}
+use Rattle.xc_sigmap_lines.specs.declared.parts.Told.TheVariants.{Named, Constant}
+use Rattle.xc_sigmap_lines.specs.declared.statement.Pair.{Pair}
+use Rattle.xc_sigmap_lines.specs.declared.statement.Statement.{Statement}
+use Rattle.xc_sigmap_lines.specs.declared.statement.Statement.TheVariants.{Map, Use, Var, Prop, Send, Tell, Stutter}
+use Rattle.xc_sigmap_lines.specs.MapFiles.{MapValue, spelling, has_names, is_named_pair, pair_tokens, map_format}
 use Rattle.xc_sigmap.specs.Sound.{is_sound}
 use Rattle.xc_sigmap_text.specs.Printing.{statements_in, map_lines}
 use Rattle.xc_sigmap_text.proofs.Restating.{AreFaultless}
 use Rattle.xc_sigmap_text.proofs.Again.{all_faultless, reads_again}
-use Rattle.xc_sigmap.proofs.Tokens.{name_is_word, value_is_word}
+use Rattle.xc_sigmap_lines.proofs.Tokens.{name_is_word, value_is_word}
 
 -- a word byte is no other byte
 no_word_byte : (b n : ℕ) → is_word_byte n ≡ false → is_word_byte b ≡ true → (b == n) ≡ false

@@ -7,10 +7,10 @@ use Rattle.std.proofs.lemmas.List.Folds.{list_any-append}
 use Rattle.xc_base.specs.Formats.{IsFaultless}
 use Rattle.xc_forms.specs.declared.domain.Domain.{Domain}
 use Rattle.xc_forms.specs.FaultlessLines as forms
-use Rattle.xc_sigmap.specs.declared.parts.Use as viewpoints
-use Rattle.xc_sigmap.specs.declared.statement.Statement.{Statement}
-use Rattle.xc_sigmap.specs.declared.statement.Statement.TheVariants.{Map, Use, Var, Prop, Send, Tell, Stutter}
-use Rattle.xc_sigmap.specs.MapFiles.{spelling, is_late, may_follow, is_due, uses_of, vars_of, props_of, says_again, map_format}
+use Rattle.xc_sigmap_lines.specs.declared.parts.Use as viewpoints
+use Rattle.xc_sigmap_lines.specs.declared.statement.Statement.{Statement}
+use Rattle.xc_sigmap_lines.specs.declared.statement.Statement.TheVariants.{Map, Use, Var, Prop, Send, Tell, Stutter}
+use Rattle.xc_sigmap_lines.specs.MapFiles.{spelling, is_late, may_follow, is_due, uses_of, vars_of, props_of, says_again, map_format}
 use Rattle.xc_sigmap.specs.Sound.{has_two}
 use Rattle.xc_sigmap.proofs.Fair.{last_push, same_uses, same_vars, same_props}
 

@@ -14,13 +14,13 @@ use Rattle.xc_forms.specs.Variables.{values_at, is_domain}
 use Rattle.xc_forms.specs.VariableNames.{is_variable_name, is_value_name}
 use Rattle.xc_forms.specs.declared.domain.Domain.{Domain}
 use Rattle.xc_forms.proofs.Short.{size, name_size, values_size, short_by}
-use Rattle.xc_sigmap.specs.declared.parts.Carry.{Carry}
-use Rattle.xc_sigmap.specs.declared.parts.SendLine.{SendLine}
-use Rattle.xc_sigmap.specs.declared.parts.Told.TheVariants.{Named, Constant}
-use Rattle.xc_sigmap.specs.declared.statement.Pair.{Pair}
-use Rattle.xc_sigmap.specs.declared.statement.Statement.{Statement}
-use Rattle.xc_sigmap.specs.declared.statement.Statement.TheVariants.{Map, Use, Var, Prop, Send, Tell, Stutter}
-use Rattle.xc_sigmap.specs.MapFiles.{MapValue, spelling, has_names, is_named_pair, pair_tokens}
+use Rattle.xc_sigmap_lines.specs.declared.parts.Carry.{Carry}
+use Rattle.xc_sigmap_lines.specs.declared.parts.SendLine.{SendLine}
+use Rattle.xc_sigmap_lines.specs.declared.parts.Told.TheVariants.{Named, Constant}
+use Rattle.xc_sigmap_lines.specs.declared.statement.Pair.{Pair}
+use Rattle.xc_sigmap_lines.specs.declared.statement.Statement.{Statement}
+use Rattle.xc_sigmap_lines.specs.declared.statement.Statement.TheVariants.{Map, Use, Var, Prop, Send, Tell, Stutter}
+use Rattle.xc_sigmap_lines.specs.MapFiles.{MapValue, spelling, has_names, is_named_pair, pair_tokens}
 use Rattle.xc_sigmap.specs.Sound.{has_two, is_carry_in, is_send_in, same_value, is_sound}
 use Rattle.xc_sigmap_text.specs.Printing.{paired, sending, telling, stuttering, statements_in, map_lines}
 use Rattle.xc_sigmap_text.proofs.Restating.{AreFaultless}

@@ -13,13 +13,13 @@ use Rattle.xc_forms.specs.Variables.{names_of, values_at, is_domain}
 use Rattle.xc_forms.specs.VariableNames.{is_value_name}
 use Rattle.xc_forms.specs.declared.domain.Domain.{Domain}
 use Rattle.xc_forms.specs.VariableLines.{is_named_var}
-use Rattle.xc_sigmap.specs.declared.parts.Use as viewpoints
-use Rattle.xc_sigmap.specs.declared.parts.Carry.{Carry}
-use Rattle.xc_sigmap.specs.declared.parts.SendLine.{SendLine}
-use Rattle.xc_sigmap.specs.declared.parts.Tell as tellings
-use Rattle.xc_sigmap.specs.declared.parts.Stutter as gaps
-use Rattle.xc_sigmap.specs.declared.statement.Statement.{Statement}
-use Rattle.xc_sigmap.specs.MapFiles.{MapValue, spelling, is_named_pair, use_names, carried_names, values_named, says_again, props_of, has_use, has_source, carry, sends_of, tells_of, stutters_of, map_format}
+use Rattle.xc_sigmap_lines.specs.declared.parts.Use as viewpoints
+use Rattle.xc_sigmap_lines.specs.declared.parts.Carry.{Carry}
+use Rattle.xc_sigmap_lines.specs.declared.parts.SendLine.{SendLine}
+use Rattle.xc_sigmap_lines.specs.declared.parts.Tell as tellings
+use Rattle.xc_sigmap_lines.specs.declared.parts.Stutter as gaps
+use Rattle.xc_sigmap_lines.specs.declared.statement.Statement.{Statement}
+use Rattle.xc_sigmap_lines.specs.MapFiles.{MapValue, spelling, is_named_pair, use_names, carried_names, values_named, says_again, props_of, has_use, has_source, carry, sends_of, tells_of, stutters_of, map_format}
 use Rattle.xc_sigmap.specs.Sound.{has_two, is_named_use, is_carry_in, is_send_in, is_tell_in, is_stutter_in, same_value, same_send, same_tell, same_stutter}
 use Rattle.xc_sigmap_text.specs.Printing.{use_at, paired, sending, telling, stuttering}
 use Rattle.xc_sigmap_text.proofs.Restating.{IsBehind}

@@ -5,7 +5,7 @@ ghost use Rattle.xc_base.specs.Canonical.{canonical};
 ghost use Rattle.xc_base.specs.Formats.{IsAccepted};
 ghost use Rattle.xc_base.specs.Lines.{text_rows};
 ghost use Rattle.xc_base.specs.Text.{text_fault};
-ghost use Rattle.xc_sigmap.specs.MapFiles.{map_format};
+ghost use Rattle.xc_sigmap_lines.specs.MapFiles.{map_format};
 ghost use Rattle.xc_sigmap.specs.Maps.{value_of};
 ghost use Rattle.xc_sigmap_text.specs.Printing.{map_lines};
 

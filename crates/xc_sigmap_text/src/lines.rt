@@ -5,8 +5,8 @@ ghost use Rattle.std.specs.List.{list_all};
 ghost use Rattle.xc_base.specs.Lines.{texts};
 ghost use Rattle.xc_base.specs.Names.{name_at};
 ghost use Rattle.xc_forms.specs.Variables.{names_of, values_at};
-ghost use Rattle.xc_sigmap.specs.declared.statement.Statement.TheVariants.{Map, Use, Var, Prop};
-ghost use Rattle.xc_sigmap.specs.MapFiles.{use_names, pair_tokens, told_tokens, spelling};
+ghost use Rattle.xc_sigmap_lines.specs.declared.statement.Statement.TheVariants.{Map, Use, Var, Prop};
+ghost use Rattle.xc_sigmap_lines.specs.MapFiles.{use_names, pair_tokens, told_tokens, spelling};
 ghost use Rattle.xc_sigmap.specs.Maps.{value_of};
 ghost use Rattle.xc_sigmap.specs.Sound.{is_carry_in, is_send_in, is_tell_in, is_stutter_in};
 ghost use Rattle.xc_sigmap_text.specs.Printing.{paired, sending, telling, stuttering};
@@ -15,7 +15,8 @@ ghost use Rattle.xc_sigmap_text.specs.Written.{written};
 use std::alloc::Global;
 use xc_base::{Bytes, Lexeme, List, Memory, Word, push_line};
 use xc_forms::{Domain, lexeme, word};
-use xc_sigmap::{Carry, SendLine, SigMap, Stutter, Tell, Told, Use as Declared};
+use xc_sigmap::SigMap;
+use xc_sigmap_lines::{Carry, SendLine, Stutter, Tell, Told, Use as Declared};
 
 /// Appends the line of a map's name.
 #[tactic(auto, unfolding(xc_forms::specs::PrintedLines::written))]

@@ -12,7 +12,7 @@ use Rattle.xc_laws.specs.declared.law.Law.{Law}
 use Rattle.xc_lattice.specs.declared.lattice.Lattice.{Lattice}
 use Rattle.xc_view.specs.ViewFiles.{ViewValue}
 use Rattle.xc_view.specs.declared.view.View.{View}
-use Rattle.xc_sigmap.specs.declared.parts.Use.{Use}
+use Rattle.xc_sigmap_lines.specs.declared.parts.Use.{Use}
 use Rattle.xc_merge.specs.Merges.{Viewpoint}
 use Rattle.xc_merge.specs.Merging.{viewpoint_of}
 use Rattle.xc_lines.specs.Texts.{broken_line}

@@ -10,7 +10,7 @@ use Rattle.xc_lattice.specs.LatticeFiles.{Verdict, Faulty, lattice_format}
 use Rattle.xc_view.specs.ViewFiles.{view_format}
 use Rattle.xc_view.specs.Views.{value_of as view_of}
 use Rattle.xc_view.specs.declared.view.View.{View}
-use Rattle.xc_sigmap.specs.MapFiles.{map_format}
+use Rattle.xc_sigmap_lines.specs.MapFiles.{map_format}
 use Rattle.xc_sigmap.specs.Maps.{value_of as map_of}
 use Rattle.xc_sigmap.specs.declared.sigmap.SigMap.{SigMap}
 use Rattle.xc_formula_text.specs.FormulaFiles.{formula_format}

@@ -3,7 +3,7 @@
 ghost use Rattle.std.specs.Prelude.{IfOk, IfErr};
 ghost use Rattle.xc_base.specs.Formats.{IsAccepted};
 ghost use Rattle.xc_base.specs.Lines.{rows_in};
-ghost use Rattle.xc_sigmap.specs.MapFiles.{map_format};
+ghost use Rattle.xc_sigmap_lines.specs.MapFiles.{map_format};
 ghost use Rattle.xc_sigmap.specs.Maps.{value_of as map_of};
 ghost use Rattle.xc_course.specs.FileKinds.{Maps};
 ghost use Rattle.xc_course.specs.Trees.{Open};

@@ -9,7 +9,7 @@ use Rattle.xc_base.specs.declared.shelf.File.{File}
 use Rattle.xc_lattice.specs.LatticeFiles.{LatticeValue, Unlawful, Lawful, IsVerdict}
 use Rattle.xc_laws.specs.declared.law.Law.TheVariants.{Distributive}
 use Rattle.xc_view.specs.ViewFiles.{ViewValue, view_format}
-use Rattle.xc_sigmap.specs.MapFiles.{MapValue, map_format}
+use Rattle.xc_sigmap_lines.specs.MapFiles.{MapValue, map_format}
 use Rattle.xc_lattice.specs.Printed.{lattice_lines}
 use Rattle.xc_view.specs.Printing.{view_lines}
 use Rattle.xc_sigmap_text.specs.Printing.{map_lines}

@@ -13,9 +13,9 @@ use Rattle.xc_lattice.specs.LatticeFiles.{LatticeValue, Verdict, Faulty, Unlawfu
 use Rattle.xc_lattice.specs.Printed.{lattice_lines}
 use Rattle.xc_view.specs.Printing.{view_lines}
 use Rattle.xc_view.specs.ViewFiles.{view_format}
-use Rattle.xc_sigmap.specs.MapFiles.{MapValue, map_format}
+use Rattle.xc_sigmap_lines.specs.MapFiles.{MapValue, map_format}
 use Rattle.xc_sigmap_text.specs.Printing.{map_lines}
-use Rattle.xc_sigmap.specs.declared.parts.Use.{Use}
+use Rattle.xc_sigmap_lines.specs.declared.parts.Use.{Use}
 use Rattle.xc_merge.specs.Faults.{merge_fault}
 use Rattle.xc_merge.specs.Merges.{Merge, Viewpoint}
 use Rattle.xc_merge.specs.declared.fault.MergeFault.{MergeFault}

@@ -1,5 +1,5 @@
 use Rattle.std.proofs.Common.{◌∙◌, ap}
-use Rattle.xc_sigmap.specs.MapFiles.{MapValue}
+use Rattle.xc_sigmap_lines.specs.MapFiles.{MapValue}
 use Rattle.xc_machine.specs.Machines.{merge_of}
 use Rattle.xc_ctl.specs.Formulas.{nodes_in}
 use Rattle.machine_tests.proofs.Ranges.{within_machine}

@@ -1,5 +1,5 @@
 use Rattle.std.proofs.Common.{subst}
-use Rattle.xc_sigmap.specs.declared.parts.SendLine.{SendLine}
+use Rattle.xc_sigmap_lines.specs.declared.parts.SendLine.{SendLine}
 use Rattle.xc_view.specs.Views.{value_of as view_of}
 use Rattle.xc_merge.specs.Faults.{IsFirstOf}
 use Rattle.xc_merge.specs.Finding.{sent_by, sent}

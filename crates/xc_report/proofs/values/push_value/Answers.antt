@@ -1,7 +1,7 @@
 use Rattle.std.proofs.Common.{◌≡◌, ℕ, List, true, take, sym, ap, subst, ◌∙◌}
 use Rattle.xc_forms.specs.Variables.{are_fit}
 use Rattle.xc_forms.specs.declared.domain.Domain.{Domain}
-use Rattle.xc_sigmap.specs.MapFiles.{MapValue}
+use Rattle.xc_sigmap_lines.specs.MapFiles.{MapValue}
 use Rattle.xc_machine.specs.Machines.{merge_of}
 use Rattle.xc_report.proofs.Framed.{declared_parts}
 use Rattle.xc_report.proofs.Telling.{row_digits, places_digits}

@@ -1,5 +1,5 @@
 use Rattle.xc_sigmap_text.specs.Printing.{map_lines}
-use Rattle.xc_sigmap.specs.MapFiles.{MapValue}
+use Rattle.xc_sigmap_lines.specs.MapFiles.{MapValue}
 use Rattle.xc_words.specs.declared.asked.ShowKind.TheVariants as kinds
 use Rattle.xc_course.proofs.Working.{works_passed}
 use Rattle.xc_show.specs.Showing.{ShowTree, Shows}

@@ -1,5 +1,5 @@
 use Rattle.std.proofs.Common.{◌≡◌, take, map}
-use Rattle.xc_sigmap.specs.MapFiles.{carry}
+use Rattle.xc_sigmap_lines.specs.MapFiles.{carry}
 use Rattle.xc_sigmap.proofs.gather.carries.Given as goal
 
 abbrev pub invariant-loop-pair : goal.invariant-loop-pair

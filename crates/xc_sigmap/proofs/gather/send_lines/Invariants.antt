@@ -1,5 +1,5 @@
 use Rattle.std.proofs.Common.{◌≡◌, ◌++◌, drop}
-use Rattle.xc_sigmap.specs.MapFiles.{sends_of}
+use Rattle.xc_sigmap_lines.specs.MapFiles.{sends_of}
 use Rattle.xc_sigmap.proofs.gather.send_lines.Given as goal
 
 abbrev pub invariant-loop-s : goal.invariant-loop-s

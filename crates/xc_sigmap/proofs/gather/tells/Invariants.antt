@@ -1,5 +1,5 @@
 use Rattle.std.proofs.Common.{◌≡◌, ◌++◌, drop}
-use Rattle.xc_sigmap.specs.MapFiles.{tells_of}
+use Rattle.xc_sigmap_lines.specs.MapFiles.{tells_of}
 use Rattle.xc_sigmap.proofs.gather.tells.Given as goal
 
 abbrev pub invariant-loop-s : goal.invariant-loop-s

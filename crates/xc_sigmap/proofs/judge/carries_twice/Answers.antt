@@ -1,6 +1,6 @@
 use Rattle.std.proofs.Common.{◌||◌, ◌+◌, Bool, drop, sym, ◌∙◌, ap}
 use Rattle.xc_base.specs.Names.{has_twice}
-use Rattle.xc_sigmap.specs.MapFiles.{carried_names}
+use Rattle.xc_sigmap_lines.specs.MapFiles.{carried_names}
 use Rattle.xc_sigmap.proofs.Finding.{carried_step}
 use Rattle.xc_sigmap.proofs.judge.carries_twice.Goals as goal
 

@@ -1,8 +1,8 @@
 use Rattle.std.proofs.Common.{◌≡◌, [], drop}
 use Rattle.xc_base.specs.Lines.{rows_in}
 use Rattle.xc_base.specs.Deciding.{statements_of}
-use Rattle.xc_sigmap.specs.MapFiles.{map_format}
-use Rattle.xc_sigmap.specs.Deciding.{decide}
+use Rattle.xc_sigmap_lines.specs.MapFiles.{map_format}
+use Rattle.xc_sigmap_lines.specs.Deciding.{decide}
 use Rattle.xc_sigmap.proofs.rows.read_rows.Given as goal
 
 abbrev pub invariant-loop-row : goal.invariant-loop-row

@@ -1,4 +1,4 @@
-use Rattle.xc_sigmap.proofs.Deciding.{decides}
+use Rattle.xc_sigmap_lines.proofs.Deciding.{decides}
 use Rattle.xc_sigmap.proofs.Verdicts.{maps_are_unique, faults_are_unique, accepted_is_faultless, files_are_judged}
 use Rattle.xc_sigmap.proofs.verdict.files_have_one_map.Goals as goal
 

@@ -1,6 +1,6 @@
 use Rattle.std.proofs.Common.{◌≡◌, ◌++◌, map, drop}
 use Rattle.xc_base.specs.Lines.{texts}
-use Rattle.xc_sigmap.specs.MapFiles.{pair_tokens}
+use Rattle.xc_sigmap_lines.specs.MapFiles.{pair_tokens}
 use Rattle.xc_sigmap_text.specs.Printing.{paired}
 use Rattle.xc_sigmap_text.proofs.lines.push_pairs.Given as goal
 

@@ -1,5 +1,5 @@
 use Rattle.std.proofs.Common.{◌≡◌, ◌++◌, drop}
-use Rattle.xc_sigmap.specs.declared.statement.Statement.TheVariants.{Use}
+use Rattle.xc_sigmap_lines.specs.declared.statement.Statement.TheVariants.{Use}
 use Rattle.xc_sigmap_text.specs.Written.{written}
 use Rattle.xc_sigmap_text.proofs.lines.push_uses.Given as goal
 

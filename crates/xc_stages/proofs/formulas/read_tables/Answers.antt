@@ -1,6 +1,6 @@
 use Rattle.std.proofs.Common.{◌∙◌, ap}
 use Rattle.xc_base.specs.Lines.{rows_in}
-use Rattle.xc_sigmap.specs.MapFiles.{MapValue}
+use Rattle.xc_sigmap_lines.specs.MapFiles.{MapValue}
 use Rattle.xc_machine.specs.Machines.{merge_of}
 use Rattle.xc_stages.proofs.Given.{are_given}
 use Rattle.xc_stages.proofs.formulas.read_tables.Goals as goal

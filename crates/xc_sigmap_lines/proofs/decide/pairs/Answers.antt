@@ -1,6 +1,6 @@
 use Rattle.std.proofs.Common.{sym, ◌∙◌}
-use Rattle.xc_sigmap.proofs.Pairs.{pairs_next, pairs_stop}
-use Rattle.xc_sigmap.proofs.decide.pairs.Goals as goal
+use Rattle.xc_sigmap_lines.proofs.Pairs.{pairs_next, pairs_stop}
+use Rattle.xc_sigmap_lines.proofs.decide.pairs.Goals as goal
 
 pub returns-in_default : goal.returns-in_default
 returns-in_default c =

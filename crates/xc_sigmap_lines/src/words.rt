@@ -2,7 +2,7 @@
 
 ghost use Rattle.std.specs.Prelude.{◌≡◌};
 ghost use Rattle.xc_base.specs.Names.{is_among};
-ghost use Rattle.xc_sigmap.specs.MapFiles.{formula_words, is_prop_name};
+ghost use Rattle.xc_sigmap_lines.specs.MapFiles.{formula_words, is_prop_name};
 
 use xc_base::is_name_text;
 

@@ -1,7 +1,7 @@
 ghost use Rattle.std.specs.Prelude.{◌≡◌, ◌&&◌, true, length, nat_lt, IfOk};
 ghost use Rattle.xc_base.specs.Lines.{texts};
-ghost use Rattle.xc_sigmap.specs.Deciding.{map_line, use_line, var_line, prop_line};
-ghost use Rattle.xc_sigmap.specs.Deciding.{first_pair, pairs_in, send_parts, send_line, named_told, constant_told, told_in, tell_line, stutter_line, word_line, line};
+ghost use Rattle.xc_sigmap_lines.specs.Deciding.{map_line, use_line, var_line, prop_line};
+ghost use Rattle.xc_sigmap_lines.specs.Deciding.{first_pair, pairs_in, send_parts, send_line, named_told, constant_told, told_in, tell_line, stutter_line, word_line, line};
 
 use crate::parts::{Told, Use};
 use crate::statement::{Pair, Statement};
@@ -210,7 +210,7 @@ fn word_line(alloc: Global, word: &[u8], tokens: &[Lexeme]) -> Result<Option<Sta
 
 /// The statement that a row of these tokens is, where it is one.
 #[tactic(auto, unfolding(crate::specs::Deciding::line))]
-pub(crate) fn line(alloc: Global, tokens: &[Lexeme]) -> Result<Option<Statement>, Memory>
+pub fn line(alloc: Global, tokens: &[Lexeme]) -> Result<Option<Statement>, Memory>
     ensures { IfOk result (λ s. s ≡ line (texts tokens.now)) }
 {
     match tokens {

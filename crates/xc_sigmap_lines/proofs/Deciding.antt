@@ -10,13 +10,13 @@ use Rattle.xc_base.specs.Deciding.{Decides}
 use Rattle.xc_forms.specs.declared.domain.Domain.{Domain}
 use Rattle.xc_forms.specs.VariableReading as forms
 use Rattle.xc_forms.proofs.VariableReading as declared
-use Rattle.xc_sigmap.specs.declared.parts.Told.{Told}
-use Rattle.xc_sigmap.specs.declared.parts.Told.TheVariants.{Named, Constant}
-use Rattle.xc_sigmap.specs.declared.statement.Pair.{Pair}
-use Rattle.xc_sigmap.specs.declared.statement.Statement.{Statement}
-use Rattle.xc_sigmap.specs.declared.statement.Statement.TheVariants.{Map, Use, Var, Prop, Send, Tell, Stutter}
-use Rattle.xc_sigmap.specs.MapFiles.{IsDue, is_due, spelling, has_names, is_prop_name, is_named_pair, pair_tokens, told_tokens, told_word, map_format}
-use Rattle.xc_sigmap.specs.Deciding.{given, map_line, use_line, var_line, prop_line, is_pair, pairs_in, send_line, told_in, tell_line, stutter_line, word_line, line, placed, decide}
+use Rattle.xc_sigmap_lines.specs.declared.parts.Told.{Told}
+use Rattle.xc_sigmap_lines.specs.declared.parts.Told.TheVariants.{Named, Constant}
+use Rattle.xc_sigmap_lines.specs.declared.statement.Pair.{Pair}
+use Rattle.xc_sigmap_lines.specs.declared.statement.Statement.{Statement}
+use Rattle.xc_sigmap_lines.specs.declared.statement.Statement.TheVariants.{Map, Use, Var, Prop, Send, Tell, Stutter}
+use Rattle.xc_sigmap_lines.specs.MapFiles.{IsDue, is_due, spelling, has_names, is_prop_name, is_named_pair, pair_tokens, told_tokens, told_word, map_format}
+use Rattle.xc_sigmap_lines.specs.Deciding.{given, map_line, use_line, var_line, prop_line, is_pair, pairs_in, send_line, told_in, tell_line, stutter_line, word_line, line, placed, decide}
 
 -- the tokens are the statement's, and it has its names
 record IsStated (tokens : List (List ℕ)) (s : Statement) : Type 0 where

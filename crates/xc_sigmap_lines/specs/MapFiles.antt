@@ -11,16 +11,16 @@ use Rattle.xc_base.specs.declared.fault.Counted.TheVariants as counted
 use Rattle.xc_forms.specs.Variables.{names_of, sizes_of, values_at}
 use Rattle.xc_forms.specs.declared.domain.Domain.{Domain}
 use Rattle.xc_forms.specs.VariableLines.{var_tokens, is_var_line, is_var_again, var_excess, line_excess}
-use Rattle.xc_sigmap.specs.declared.parts.Use as viewpoints
-use Rattle.xc_sigmap.specs.declared.parts.Carry.{Carry}
-use Rattle.xc_sigmap.specs.declared.parts.SendLine.{SendLine}
-use Rattle.xc_sigmap.specs.declared.parts.Told.{Told}
-use Rattle.xc_sigmap.specs.declared.parts.Told.TheVariants.{Named, Constant}
-use Rattle.xc_sigmap.specs.declared.parts.Tell as tellings
-use Rattle.xc_sigmap.specs.declared.parts.Stutter as stutters
-use Rattle.xc_sigmap.specs.declared.statement.Pair.{Pair}
-use Rattle.xc_sigmap.specs.declared.statement.Statement.{Statement}
-use Rattle.xc_sigmap.specs.declared.statement.Statement.TheVariants.{Map, Use, Var, Prop, Send, Tell, Stutter}
+use Rattle.xc_sigmap_lines.specs.declared.parts.Use as viewpoints
+use Rattle.xc_sigmap_lines.specs.declared.parts.Carry.{Carry}
+use Rattle.xc_sigmap_lines.specs.declared.parts.SendLine.{SendLine}
+use Rattle.xc_sigmap_lines.specs.declared.parts.Told.{Told}
+use Rattle.xc_sigmap_lines.specs.declared.parts.Told.TheVariants.{Named, Constant}
+use Rattle.xc_sigmap_lines.specs.declared.parts.Tell as tellings
+use Rattle.xc_sigmap_lines.specs.declared.parts.Stutter as stutters
+use Rattle.xc_sigmap_lines.specs.declared.statement.Pair.{Pair}
+use Rattle.xc_sigmap_lines.specs.declared.statement.Statement.{Statement}
+use Rattle.xc_sigmap_lines.specs.declared.statement.Statement.TheVariants.{Map, Use, Var, Prop, Send, Tell, Stutter}
 
 -- the words of formulas, which no proposition has as its name
 abbrev pub formula_words : List (List ℕ)

@@ -4,9 +4,9 @@ use Rattle.std.specs.Option.{option_map}
 use Rattle.std.proofs.lemmas.List.{drop_all, drop-drop, append-nil, length-map}
 use Rattle.xc_base.specs.declared.lines.Lexeme.{Lexeme}
 use Rattle.xc_base.specs.Lines.{texts}
-use Rattle.xc_sigmap.specs.declared.statement.Pair.{Pair}
-use Rattle.xc_sigmap.specs.Deciding.{is_pair, first_pair, pairs_in, send_line}
-use Rattle.xc_sigmap.proofs.Tokens.{back_texts}
+use Rattle.xc_sigmap_lines.specs.declared.statement.Pair.{Pair}
+use Rattle.xc_sigmap_lines.specs.Deciding.{is_pair, first_pair, pairs_in, send_line}
+use Rattle.xc_sigmap_lines.proofs.Tokens.{back_texts}
 
 -- a first pair, and those behind it
 chosen : (b : Bool) (p q : Pair) (o : Option (List Pair)) → (if b then Some p else None) ≡ Some q → (if b then option_map (λ (ps : List Pair). p ∷ ps) o else None) ≡ option_map (λ (ps : List Pair). q ∷ ps) o

@@ -1,0 +1,4 @@
+pub mod Tokens
+pub mod Pairs
+pub mod Facts
+pub mod Deciding
