@@ -3,12 +3,12 @@ ghost use Rattle.xc_base.specs.Names.{name_at};
 ghost use Rattle.xc_lattice.specs.Drafts.{IsReady};
 ghost use Rattle.xc_lattice.specs.Values.{said, IsRefusal, IsAdmitted};
 
-use xc_laws::find_break;
 use crate::fault::LatFault;
 use crate::gather::Draft;
 use crate::lattice::Lattice;
 use std::alloc::Global;
 use xc_base::{List, Memory, Word};
+use xc_laws::find_break;
 
 fn names_of(alloc: Global, names: &List<Word>, elements: &List<u8>) -> Result<List<Word>, Memory>
     requires { All (λ a. a < length names.now) elements.now }

@@ -1,5 +1,5 @@
-use xc_laws::Law;
 use xc_base::{FileFault, List, Memory, Stop, Word};
+use xc_laws::Law;
 
 /// Why a file gives no lattice.
 #[derive(Debug, Drop)]

@@ -35,11 +35,7 @@ const LAWS: [Law; 6] = [
 /// The first of the laws that some elements break, with the first elements that do; None where all laws hold.
 ///
 /// It fails where there is no memory.
-pub fn find_break(
-    alloc: Global,
-    order: &Order,
-    negations: &[u8],
-) -> Result<Option<Break>, Memory>
+pub fn find_break(alloc: Global, order: &Order, negations: &[u8]) -> Result<Option<Break>, Memory>
     requires one_each { length negations.now ≡ length order.now }
     requires in_range { All (λ m. m < length order.now) negations.now }
     ensures { IfOk result (λ b. b ≡ first_break (record { order = order.now; negations = negations.now })) }
