@@ -4,7 +4,7 @@ use Rattle.xc_base.specs.Formats.{Row}
 use Rattle.xc_base.specs.declared.shelf.File.{File}
 use Rattle.xc_lattice.specs.LatticeFiles.{Verdict, Faulty, Unlawful, Lawful, IsVerdict}
 use Rattle.xc_view.specs.ViewFiles.{ViewValue, view_format}
-use Rattle.xc_sigmap.specs.MapFiles.{MapValue, map_format}
+use Rattle.xc_sigmap_lines.specs.MapFiles.{MapValue, map_format}
 use Rattle.xc_formula_text.specs.FormulaFiles.{formula_format}
 use Rattle.xc_ctl.specs.Trees.{Signature}
 use Rattle.xc_ctl.specs.declared.kind.Kind.{Kind}
