@@ -1,8 +1,8 @@
-ghost use Rattle.std.specs.Prelude.{◌≡◌, ◌<◌, true, [], length, IfOk, IfSome};
+ghost use Rattle.std.specs.Prelude.{◌≡◌, ◌<◌, true, [], length, IfOk, IfSome, Some};
 ghost use Rattle.xc_base.specs.Deciding.{line_of, statements_of, file_of, Gives};
 ghost use Rattle.xc_base.specs.Lines.{texts, rows_in, row_at};
 ghost use Rattle.xc_sigmap_lines.specs.MapFiles.{is_due, missing_part, map_format};
-ghost use Rattle.xc_sigmap_lines.specs.Deciding.{decide};
+ghost use Rattle.xc_sigmap_lines.specs.Deciding.{decide, placed};
 ghost use Rattle.xc_sigmap.specs.Drafts.{GivesAs};
 ghost use Rattle.xc_sigmap.specs.Kept.{drafted};
 
@@ -13,14 +13,21 @@ use std::alloc::Global;
 use xc_base::{FileFault, Lexeme, Lines, Memory, Part, Stop};
 use xc_sigmap_lines::{Statement, line};
 
+/// The statement, where it is due after those of a draft.
+fn if_due(draft: &Draft, s: Statement) -> Option<Statement>
+    ensures { result ≡ placed draft.now.statements (Some s) }
+{
+    if is_due(draft, &s) { Some(s) } else { None }
+}
+
 /// The statement that a row of these tokens is after those of a draft, where it is one.
 #[tactic(auto, unfolding(xc_sigmap_lines::specs::Deciding::decide))]
 fn decide(alloc: Global, draft: &Draft, tokens: &[Lexeme]) -> Result<Option<Statement>, Memory>
     ensures { IfOk result (λ s. s ≡ decide draft.now.statements (texts tokens.now)) }
 {
     match line(alloc, tokens)? {
-        Some(s) if is_due(draft, &s) => Ok(Some(s)),
-        _ => Ok(None),
+        Some(s) => Ok(if_due(draft, s)),
+        None => Ok(None),
     }
 }
 
