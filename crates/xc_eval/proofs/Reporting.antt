@@ -8,7 +8,7 @@ use Rattle.xc_base.specs.declared.memory.Memory.{Memory as NoMemory}
 use Rattle.xc_product.specs.Heights.{AreHeights}
 use Rattle.xc_merge.specs.Merges.{Merge, viewpoint_at, parts_of}
 use Rattle.xc_merge.specs.MergedFrames.{merged_frame}
-use Rattle.xc_machine.specs.Tabled.{IsGood}
+use Rattle.xc_merged.specs.Tabled.{IsGood}
 use Rattle.xc_ctl.specs.Rounds.{RoundsTable, IsTableFor}
 use Rattle.xc_ctl.specs.declared.formula.Formula.{Formula}
 use Rattle.xc_ctl.specs.declared.kind.Kind.{Kind}

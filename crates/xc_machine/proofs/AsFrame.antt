@@ -3,11 +3,11 @@ use Rattle.std.proofs.Common.{◌<◌, ℕ}
 use Rattle.xc_alg.specs.Products.{product}
 use Rattle.xc_ctl.specs.Frames.{IsFrame}
 use Rattle.xc_merge.specs.MergedFrames.{merged_frame}
-use Rattle.xc_machine.specs.Gathered.{merged_of}
-use Rattle.xc_machine.specs.declared.merged.Merged.{Merged}
+use Rattle.xc_merged.specs.Gathered.{merged_of}
+use Rattle.xc_merged.specs.declared.merged.Merged.{Merged}
 use Rattle.xc_machine.proofs.Encoding.{tables_at, tables_count}
 use Rattle.xc_machine.proofs.Framing.{framed}
-use Rattle.xc_machine.proofs.Seeing.{item}
+use Rattle.xc_merged.proofs.Seeing.{item}
 
 pub merged_is_framed : (m : Merged) → IsFrame (merged_frame (merged_of m))
 merged_is_framed m =

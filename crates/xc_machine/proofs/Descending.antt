@@ -16,17 +16,17 @@ use Rattle.xc_merge.specs.Projections.{states_of, row_of, row_seen, place_seen, 
 use Rattle.xc_merge.specs.MergedFrames.{is_initial_for, is_merged_initial, initials_of}
 use Rattle.xc_machine.specs.declared.judgement.Judgement.{Judgement}
 use Rattle.xc_machine.specs.declared.judgement.Judgement.TheVariants.{Holds, Fails}
-use Rattle.xc_machine.specs.declared.tables.Feed.{Feed}
-use Rattle.xc_machine.specs.declared.tables.Tables.{Tables}
+use Rattle.xc_merged.specs.declared.tables.Feed.{Feed}
+use Rattle.xc_merged.specs.declared.tables.Tables.{Tables}
 use Rattle.xc_machine.specs.declared.initials.Block.{Block}
 use Rattle.xc_machine.specs.declared.initials.Found.{Found}
-use Rattle.xc_machine.specs.Tabled.{AreTables}
+use Rattle.xc_merged.specs.Tabled.{AreTables}
 use Rattle.xc_machine.specs.Judging.{is_known, judged, in_both, IsRight, Agrees}
 use Rattle.xc_machine.specs.Descent.{reads_below, known_by, initial_from, initial_upto, SharesFront, IsJudgedFor, AreJudged, IsBlock, initials_below, IsFound}
-use Rattle.xc_machine.proofs.Fronts.{front, same_quotient, block_fits, total_split, positive_factors}
+use Rattle.xc_merged.proofs.Fronts.{front, same_quotient, block_fits, total_split, positive_factors}
 use Rattle.xc_machine.proofs.Judging.{both_right, judged_right}
-use Rattle.xc_machine.proofs.Seeing.{item}
-use Rattle.xc_machine.proofs.Stepping.{row_back}
+use Rattle.xc_merged.proofs.Seeing.{item}
+use Rattle.xc_merged.proofs.Stepping.{row_back}
 
 -- which variables are known so far
 pub one_known : (feeds : List Feed) (known : List Bool) (depth x : ℕ) (feed : Feed) (b : Bool) → x < length feeds → x < length known → feed ≡ get_or feeds x feed → b ≡ nat_lt feed.source depth → take x known ≡ known_by (take x feeds) depth → take (x + 1) (set known x b) ≡ known_by (take (x + 1) feeds) depth

@@ -14,12 +14,12 @@ use Rattle.xc_merge.specs.Merges.{Viewpoint, viewpoint_at}
 use Rattle.xc_merge.specs.Merging.{viewpoint_of, merge_in}
 use Rattle.xc_merge.specs.Pieces.{weight, mark, counts}
 use Rattle.xc_machine.specs.Places.{variable_at, command_at, line_at}
-use Rattle.xc_machine.specs.Tabled.{IsFeed, IsTelling, AreTables, IsGood}
-use Rattle.xc_machine.specs.declared.tables.Feed.{Feed}
-use Rattle.xc_machine.specs.declared.tables.Tables.{Tables}
-use Rattle.xc_machine.specs.declared.tables.Telling.{Telling}
-use Rattle.xc_machine.proofs.Merging.{viewpoint_is, viewpoint_count}
-use Rattle.xc_machine.proofs.Seeing.{item}
+use Rattle.xc_merged.specs.Tabled.{IsFeed, IsTelling, AreTables, IsGood}
+use Rattle.xc_merged.specs.declared.tables.Feed.{Feed}
+use Rattle.xc_merged.specs.declared.tables.Tables.{Tables}
+use Rattle.xc_merged.specs.declared.tables.Telling.{Telling}
+use Rattle.xc_merged.proofs.Merging.{viewpoint_is, viewpoint_count}
+use Rattle.xc_merged.proofs.Seeing.{item}
 
 -- the tables of a viewpoint by its place
 pub tables_at : (sigmap : SigMap) (views : List (View × Lattice)) (tables : List Tables) (v : ℕ) (t : Tables)

@@ -23,10 +23,10 @@ use Rattle.xc_merge.specs.Merges.{Merge, Viewpoint, viewpoint_at, for_each, part
 use Rattle.xc_merge.specs.Merging.{viewpoint_of, merge_in}
 use Rattle.xc_merge.specs.MergedFrames.{join_in, step_values, step_digit, digit_told, digit_by, prop_digit, line_of, merged_frame}
 use Rattle.xc_merge.specs.Pieces.{constant_told, fixed_by, fixed}
-use Rattle.xc_machine.specs.Tabled.{IsGood}
-use Rattle.xc_machine.proofs.Giving.{digits_from, part_size}
-use Rattle.xc_machine.proofs.Merging.{viewpoint_is, viewpoint_count}
-use Rattle.xc_machine.proofs.Seeing.{item}
+use Rattle.xc_merged.specs.Tabled.{IsGood}
+use Rattle.xc_merged.proofs.Giving.{digits_from, part_size}
+use Rattle.xc_merged.proofs.Merging.{viewpoint_is, viewpoint_count}
+use Rattle.xc_merged.proofs.Seeing.{item}
 
 -- a lattice of the code is lawful, with names
 lattice_good : (l : Lattice) → IsGood (lattice_of l)

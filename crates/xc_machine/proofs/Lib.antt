@@ -1,15 +1,6 @@
-pub mod Joining
-pub mod Seeing
-pub mod Sound
-pub mod Stepping
 pub mod Judging
-pub mod Fronts
 pub mod Descending
-pub mod Faultless
-pub mod Tabling
-pub mod Merging
-pub mod Giving
-pub mod Coding
+pub mod Beginnings
 pub mod Encoding
 pub mod Framing
 pub mod AsFrame

@@ -6,7 +6,7 @@ use Rattle.xc_merge.specs.Projections.{states_of, row_of}
 use Rattle.xc_merge.specs.MergedFrames.{is_initial_for, is_merged_initial}
 use Rattle.xc_machine.specs.Judging.{IsRight}
 use Rattle.xc_machine.specs.declared.judgement.Judgement.{Judgement}
-use Rattle.xc_machine.specs.declared.tables.Feed.{Feed}
+use Rattle.xc_merged.specs.declared.tables.Feed.{Feed}
 use Rattle.xc_machine.specs.declared.initials.Block.{Block}
 use Rattle.xc_machine.specs.declared.initials.Found.{Found}
 

@@ -1,12 +1,5 @@
 pub mod Descent
-pub mod Elements
-pub mod Gathering
-pub mod Joins
 pub mod Judging
-pub mod Tabled
-pub mod Seeing
-pub mod Gathered
-pub mod Digits
 pub mod Machines
 pub mod Places
 pub mod AsFrame

@@ -8,8 +8,8 @@ ghost use Rattle.xc_merge.specs.Pieces.{weight, mark, counts, fixed, stutter};
 ghost use Rattle.xc_merge.specs.Projections.{source, carried};
 ghost use Rattle.xc_machine.specs.Places.{variable_at, command_at, line_at};
 
-use crate::elements::is_good;
 use crate::machine::Machine;
+use xc_merged::is_good;
 
 impl Machine {
     ghost use Rattle.xc_machine.specs.Machines.{merge_of};

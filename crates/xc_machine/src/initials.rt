@@ -6,13 +6,16 @@ ghost use Rattle.std.specs.List.{range_with_len};
 ghost use Rattle.xc_theory.specs.Codes.{AreDigits};
 ghost use Rattle.xc_forms.specs.Variables.{sizes_of};
 ghost use Rattle.xc_sigmap.specs.Maps.{value_of as map_of};
-ghost use Rattle.xc_machine.specs.Descent.{known_by};
+ghost use Rattle.xc_machine.specs.Descent.{known_by, AreJudged, IsBlock, IsFound, IsJudgedFor};
+ghost use Rattle.xc_merge.specs.Merges.{viewpoint_at};
+ghost use Rattle.xc_merge.specs.Projections.{row_of, states_of};
+ghost use Rattle.xc_merge.specs.MergedFrames.{is_initial_for, is_merged_initial};
+ghost use Rattle.xc_merged.specs.Gathered.{merged_of};
 
 use crate::judgement::{Judgement, judge};
-use crate::merged::Merged;
-use crate::tables::Feed;
 use std::alloc::Global;
 use xc_base::{List, Memory};
+use xc_merged::{Feed, Merged};
 use xc_moves::{holds_in, places_of};
 
 /// Some states in order that are all initial, or of which none is.
@@ -74,148 +77,139 @@ fn known(feeds: &List<Feed>, depth: usize) -> [bool; 20]
     known
 }
 
-impl Merged {
-    ghost use Rattle.std.specs.Prelude.{IfOk};
-    ghost use Rattle.xc_merge.specs.Merges.{viewpoint_at};
-    ghost use Rattle.xc_merge.specs.Projections.{row_of, states_of};
-    ghost use Rattle.xc_merge.specs.MergedFrames.{is_initial_for, is_merged_initial};
-    ghost use Rattle.xc_machine.specs.Descent.{AreJudged, IsBlock, IsFound, IsJudgedFor};
-    ghost use Rattle.xc_machine.specs.Gathered.{merged_of};
+/// Whether a state is initial for a viewpoint, by the places of the map's variables.
+fn is_initial_for(merged: &Merged, v: usize, s: u32, row: &[u8]) -> bool
+    requires v { v < length merged.now.views }
+    requires s { s < states_of (map_of merged.now.sigmap) }
+    requires row { row.now ≡ row_of (map_of merged.now.sigmap) s }
+    ensures { result ≡ is_initial_for (map_of merged.now.sigmap) s v (viewpoint_at (merged_of merged.now) v) }
+{
+    let places = merged.seen(v, row);
+    let pair = merged.views.get(v);
+    let view = &pair.0;
+    view.is_sound();
+    let vars = view.vars();
+    let count = vars.len();
+    let seen = &places[..count];
+    holds_in(view.init(), vars, seen)
+}
 
-    /// Whether a state is initial for a viewpoint, by the places of the map's variables.
-    fn is_initial_for(&self, v: usize, s: u32, row: &[u8]) -> bool
-        requires v { v < length self.now.views }
-        requires s { s < states_of (map_of self.now.sigmap) }
-        requires row { row.now ≡ row_of (map_of self.now.sigmap) s }
-        ensures { result ≡ is_initial_for (map_of self.now.sigmap) s v (viewpoint_at (merged_of self.now) v) }
-    {
-        let places = self.seen(v, row);
-        let pair = self.views.get(v);
-        let view = &pair.0;
-        view.is_sound();
-        let vars = view.vars();
-        let count = vars.len();
-        let seen = &places[..count];
-        holds_in(view.init(), vars, seen)
-    }
-
-    /// Whether a state is initial for each viewpoint.
-    #[tactic(auto, using(std::proofs::lemmas::Grind::common_steps, crate::proofs::Descending::initial_more, crate::proofs::Descending::initial_none, crate::proofs::Descending::initial_all))]
-    pub(crate) fn is_initial(&self, s: u32) -> bool
-        requires { s < states_of (map_of self.now.sigmap) }
-        ensures { result ≡ is_merged_initial (merged_of self.now) s }
-    {
-        self.sigmap.is_sound();
-        let vars = self.sigmap.vars();
-        let places = places_of(vars, s);
-        let row = &places[..vars.len()];
-        for v in 0..self.views.len() {
-            if !self.is_initial_for(v, s, row) {
-                return false;
-            }
-        }
-        true
-    }
-
-    /// What a viewpoint says of all states whose first places these are.
-    fn judge_for(&self, v: usize, depth: usize, row: &[u8]) -> Judgement
-        requires v { v < length self.now.views }
-        requires row { AreDigits (sizes_of (map_of self.now.sigmap).vars) row.now }
-        ensures { IsJudgedFor (merged_of self.now) depth row.now v result }
-    {
-        let places = self.seen(v, row);
-        let pair = self.views.get(v);
-        let view = &pair.0;
-        view.is_sound();
-        let tables = self.tables.get(v);
-        let read = known(&tables.feeds, depth);
-        let vars = view.vars();
-        let count = vars.len();
-        let seen = &places[..count];
-        let known = &read[..count];
-        judge(view.init(), vars, seen, known)
-    }
-
-    /// What the viewpoints up to one say, of what those before it say.
-    #[tactic(auto, using(std::proofs::lemmas::Grind::common_steps, crate::proofs::Descending::next_judged, crate::proofs::Descending::still_fails))]
-    fn judge_next(&self, before: Judgement, v: usize, depth: usize, row: &[u8]) -> Judgement
-        requires v { v < length self.now.views }
-        requires row { AreDigits (sizes_of (map_of self.now.sigmap).vars) row.now }
-        requires before { AreJudged (merged_of self.now) depth row.now v before }
-        ensures { AreJudged (merged_of self.now) depth row.now (v + 1) result }
-    {
-        if before == Judgement::Fails {
-            before
-        } else {
-            before.and(self.judge_for(v, depth, row))
+/// Whether a state is initial for each viewpoint.
+#[tactic(auto, using(std::proofs::lemmas::Grind::common_steps, crate::proofs::Descending::initial_more, crate::proofs::Descending::initial_none, crate::proofs::Descending::initial_all))]
+pub(crate) fn is_initial(merged: &Merged, s: u32) -> bool
+    requires { s < states_of (map_of merged.now.sigmap) }
+    ensures { result ≡ is_merged_initial (merged_of merged.now) s }
+{
+    merged.sigmap.is_sound();
+    let vars = merged.sigmap.vars();
+    let places = places_of(vars, s);
+    let row = &places[..vars.len()];
+    for v in 0..merged.views.len() {
+        if !is_initial_for(merged, v, s, row) {
+            return false;
         }
     }
+    true
+}
 
-    /// What all viewpoints say.
-    #[tactic(auto, using(std::proofs::lemmas::Grind::common_steps, crate::proofs::Descending::none_judged))]
-    fn judge_all(&self, depth: usize, row: &[u8]) -> Judgement
-        requires { AreDigits (sizes_of (map_of self.now.sigmap).vars) row.now }
-        ensures { AreJudged (merged_of self.now) depth row.now (length self.now.views) result }
-    {
-        let mut all = Judgement::Holds;
-        for v in 0..self.views.len() {
-            all = self.judge_next(all, v, depth, row);
-        }
-        all
+/// What a viewpoint says of all states whose first places these are.
+fn judge_for(merged: &Merged, v: usize, depth: usize, row: &[u8]) -> Judgement
+    requires v { v < length merged.now.views }
+    requires row { AreDigits (sizes_of (map_of merged.now.sigmap).vars) row.now }
+    ensures { IsJudgedFor (merged_of merged.now) depth row.now v result }
+{
+    let places = merged.seen(v, row);
+    let pair = merged.views.get(v);
+    let view = &pair.0;
+    view.is_sound();
+    let tables = merged.tables.get(v);
+    let read = known(&tables.feeds, depth);
+    let vars = view.vars();
+    let count = vars.len();
+    let seen = &places[..count];
+    let known = &read[..count];
+    judge(view.init(), vars, seen, known)
+}
+
+/// What the viewpoints up to one say, of what those before it say.
+#[tactic(auto, using(std::proofs::lemmas::Grind::common_steps, crate::proofs::Descending::next_judged, crate::proofs::Descending::still_fails))]
+fn judge_next(merged: &Merged, before: Judgement, v: usize, depth: usize, row: &[u8]) -> Judgement
+    requires v { v < length merged.now.views }
+    requires row { AreDigits (sizes_of (map_of merged.now.sigmap).vars) row.now }
+    requires before { AreJudged (merged_of merged.now) depth row.now v before }
+    ensures { AreJudged (merged_of merged.now) depth row.now (v + 1) result }
+{
+    if before == Judgement::Fails {
+        before
+    } else {
+        before.and(judge_for(merged, v, depth, row))
     }
+}
 
-    /// As many states from one on as are found to be alike.
-    fn block_at(&self, first: u32, states: u32) -> Block
-        requires first { first < states_of (map_of self.now.sigmap) }
-        requires states { states ≡ states_of (map_of self.now.sigmap) }
-        ensures { IsBlock (merged_of self.now) first result }
-    {
-        self.sigmap.is_sound();
-        let vars = self.sigmap.vars();
-        let places = places_of(vars, first);
-        let row = &places[..vars.len()];
-        let mut size = states;
-        for depth in 0..vars.len() {
-            if first % size == 0 {
-                match self.judge_all(depth, row) {
-                    Judgement::Holds => {
-                        return Block {
-                            size,
-                            initial: true,
-                        };
-                    }
-                    Judgement::Fails => {
-                        return Block {
-                            size,
-                            initial: false,
-                        };
-                    }
-                    Judgement::Open => {}
+/// What all viewpoints say.
+#[tactic(auto, using(std::proofs::lemmas::Grind::common_steps, crate::proofs::Descending::none_judged))]
+fn judge_all(merged: &Merged, depth: usize, row: &[u8]) -> Judgement
+    requires { AreDigits (sizes_of (map_of merged.now.sigmap).vars) row.now }
+    ensures { AreJudged (merged_of merged.now) depth row.now (length merged.now.views) result }
+{
+    let mut all = Judgement::Holds;
+    for v in 0..merged.views.len() {
+        all = judge_next(merged, all, v, depth, row);
+    }
+    all
+}
+
+/// As many states from one on as are found to be alike.
+fn block_at(merged: &Merged, first: u32, states: u32) -> Block
+    requires first { first < states_of (map_of merged.now.sigmap) }
+    requires states { states ≡ states_of (map_of merged.now.sigmap) }
+    ensures { IsBlock (merged_of merged.now) first result }
+{
+    merged.sigmap.is_sound();
+    let vars = merged.sigmap.vars();
+    let places = places_of(vars, first);
+    let row = &places[..vars.len()];
+    let mut size = states;
+    for depth in 0..vars.len() {
+        if first % size == 0 {
+            match judge_all(merged, depth, row) {
+                Judgement::Holds => {
+                    return Block {
+                        size,
+                        initial: true,
+                    };
                 }
+                Judgement::Fails => {
+                    return Block {
+                        size,
+                        initial: false,
+                    };
+                }
+                Judgement::Open => {}
             }
-            size /= vars.get(depth).values.len() as u32;
         }
-        Block {
-            size: 1,
-            initial: self.is_initial(first),
-        }
+        size /= vars.get(depth).values.len() as u32;
     }
+    Block {
+        size: 1,
+        initial: is_initial(merged, first),
+    }
+}
 
-    /// The initial states.
-    pub(crate) fn initials(&self, alloc: Global) -> Result<Found, Memory>
-        ensures { IfOk result (IsFound (merged_of self.now) (states_of (map_of self.now.sigmap))) }
-    {
-        let states = self.states();
-        let mut found = Found {
-            count: 0,
-            states: List::new(alloc),
-        };
-        let mut first = 0;
-        while first < states {
-            let block = self.block_at(first, states);
-            found.add(first, block)?;
-            first += block.size;
-        }
-        Ok(found)
+/// The initial states.
+pub(crate) fn find_initials(alloc: Global, merged: &Merged) -> Result<Found, Memory>
+    ensures { IfOk result (IsFound (merged_of merged.now) (states_of (map_of merged.now.sigmap))) }
+{
+    let states = merged.states();
+    let mut found = Found {
+        count: 0,
+        states: List::new(alloc),
+    };
+    let mut first = 0;
+    while first < states {
+        let block = block_at(merged, first, states);
+        found.add(first, block)?;
+        first += block.size;
     }
+    Ok(found)
 }

@@ -8,7 +8,7 @@ ghost use Rattle.xc_sigmap.specs.Sound.{is_sound as is_map_sound};
 ghost use Rattle.xc_ctl.specs.Frames.{IsFrame};
 ghost use Rattle.xc_merge.specs.Merges.{viewpoint_at, parts_of};
 ghost use Rattle.xc_merge.specs.MergedFrames.{merged_frame};
-ghost use Rattle.xc_machine.specs.Tabled.{IsGood};
+ghost use Rattle.xc_merged.specs.Tabled.{IsGood};
 
 use crate::machine::Machine;
 

@@ -7,13 +7,14 @@ ghost use Rattle.xc_product.specs.Products.{parts_of as factors_of};
 ghost use Rattle.xc_merge.specs.Faults.{merge_fault};
 ghost use Rattle.xc_merge.specs.Merges.{parts_of, names_of_parts};
 ghost use Rattle.xc_merge.specs.MergedFrames.{initials_of, merged_frame};
-ghost use Rattle.xc_machine.specs.Gathered.{merged_of};
+ghost use Rattle.xc_merged.specs.Gathered.{merged_of};
 
-use crate::merged::Merged;
+use crate::initials::{find_initials, is_initial};
 use std::alloc::Global;
 use xc_base::{List, Word};
 use xc_lattice::Lattice;
 use xc_merge::{MergeFault, find_fault};
+use xc_merged::Merged;
 use xc_product::Product;
 use xc_sigmap::SigMap;
 use xc_view::View;
@@ -69,7 +70,7 @@ impl Machine {
     }
 
     /// The machine of viewpoints without faults.
-    #[tactic(auto, using(std::proofs::lemmas::Grind::common_steps, crate::proofs::Merging::no_fault))]
+    #[tactic(auto, using(std::proofs::lemmas::Grind::common_steps, crate::proofs::Beginnings::no_fault))]
     fn merge(alloc: Global, merged: Merged) -> Result<Machine, MergeFault>
         requires { all_faults (merged_of merged) ≡ [] }
         ensures ok { IfOk result (λ m. (merge_of m ≡ merged_of merged) × (merge_fault (merged_of merged) ≡ None)) }
@@ -77,7 +78,7 @@ impl Machine {
     {
         let product = merged.product(alloc)?;
         let parts = merged.part_names(alloc)?;
-        let found = merged.initials(alloc)?;
+        let found = find_initials(alloc, &merged)?;
         if found.count == 0 {
             return Err(MergeFault::NoInitial);
         }
@@ -196,7 +197,7 @@ impl Machine {
         requires { s < states_of (merge_of self.now).plan }
         ensures { result ≡ is_merged_initial (merge_of self.now) s }
     {
-        self.merged.is_initial(s)
+        is_initial(&self.merged, s)
     }
 
     /// The state of a viewpoint's view that the viewpoint sees of a state.

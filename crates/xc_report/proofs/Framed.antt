@@ -30,7 +30,7 @@ use Rattle.xc_merge.specs.Pieces.{fixed_by, constant_told}
 use Rattle.xc_merge.specs.Faults.{merge_fault, first_of, all_faults, limit_fault, initial_fault}
 use Rattle.xc_merge.specs.declared.fault.MergeFault.{MergeFault}
 use Rattle.xc_merge.specs.declared.fault.MergeFault.TheVariants.{Elements}
-use Rattle.xc_machine.proofs.Faultless.{faultless, none_of_one, fixed_within}
+use Rattle.xc_merged.proofs.Faultless.{faultless, none_of_one, fixed_within}
 use Rattle.xc_ctl.specs.Frames.{IsFrame}
 use Rattle.xc_ctl.specs.Trees.{is_fit, is_part, sizes_of}
 use Rattle.xc_report.specs.Reports.{signature_of}

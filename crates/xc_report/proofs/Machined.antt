@@ -4,7 +4,7 @@ use Rattle.std.proofs.lemmas.List.{length-map}
 use Rattle.xc_theory.specs.Codes.{total}
 use Rattle.xc_alg.specs.Products.{product, sizes}
 use Rattle.xc_merge.specs.Merges.{Merge, Viewpoint, nobody, viewpoint_at, parts_of}
-use Rattle.xc_machine.specs.Tabled.{IsGood as IsFit}
+use Rattle.xc_merged.specs.Tabled.{IsGood as IsFit}
 use Rattle.xc_product.specs.Products.{parts_of as parts_in}
 use Rattle.xc_product.specs.declared.product.Product.{Product}
 use Rattle.xc_report.proofs.Lattices.{AreNamed}

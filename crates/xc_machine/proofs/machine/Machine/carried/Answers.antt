@@ -3,8 +3,8 @@ use Rattle.xc_sigmap.specs.Maps.{value_of as map_of}
 use Rattle.xc_merge.specs.Merges.{viewpoint_at}
 use Rattle.xc_machine.specs.Machines.{merge_of}
 use Rattle.xc_machine.proofs.Encoding.{tables_at, feed_at, tables_count}
-use Rattle.xc_machine.proofs.Seeing.{values_few}
-use Rattle.xc_machine.proofs.Sound.{map_parts}
+use Rattle.xc_merged.proofs.Seeing.{values_few}
+use Rattle.xc_merged.proofs.Sound.{map_parts}
 use Rattle.xc_machine.proofs.machine.Machine.carried.Goals as goal
 
 pub get-tables-requires : goal.get-tables-requires

@@ -1,8 +1,8 @@
 use Rattle.std.proofs.Common.{◌≤◌, ℕ, length, Some, ap, sym, ◌∙◌, arith}
 use Rattle.xc_merge.specs.declared.fault.MergeFault.TheVariants.{Initial}
-use Rattle.xc_machine.specs.Gathered.{merged_of}
+use Rattle.xc_merged.specs.Gathered.{merged_of}
 use Rattle.xc_machine.proofs.Descending.{found_count, found_states}
-use Rattle.xc_machine.proofs.Merging.{no_fault, no_initial, many_initial}
+use Rattle.xc_machine.proofs.Beginnings.{no_fault, no_initial, many_initial}
 use Rattle.xc_machine.proofs.AsFrame.{steps_in, values_in}
 use Rattle.xc_machine.proofs.machine.Machine.merge.Goals as goal
 

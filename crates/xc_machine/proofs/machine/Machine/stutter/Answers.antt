@@ -3,8 +3,8 @@ use Rattle.xc_sigmap.specs.Maps.{value_of as map_of}
 use Rattle.xc_merge.specs.Merges.{viewpoint_at}
 use Rattle.xc_machine.specs.Machines.{merge_of}
 use Rattle.xc_machine.proofs.Encoding.{tables_at, good_at, tables_count}
-use Rattle.xc_machine.proofs.Merging.{viewpoint_count}
-use Rattle.xc_machine.proofs.Stepping.{stutter_within}
+use Rattle.xc_merged.proofs.Merging.{viewpoint_count}
+use Rattle.xc_merged.proofs.Stepping.{stutter_within}
 use Rattle.xc_machine.proofs.machine.Machine.stutter.Goals as goal
 
 pub get-tables-requires : goal.get-tables-requires

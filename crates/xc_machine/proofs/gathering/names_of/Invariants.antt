@@ -1,6 +1,0 @@
-use Rattle.std.proofs.Common.{◌≡◌, map, take}
-use Rattle.xc_machine.specs.Gathering.{names_in}
-use Rattle.xc_machine.proofs.gathering.names_of.Given as goal
-
-abbrev pub invariant-loop-pair : goal.invariant-loop-pair
-invariant-loop-pair l = l.list ≡ map names_in (take l.pair-index l.views)

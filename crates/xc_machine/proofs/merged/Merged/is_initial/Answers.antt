@@ -1,6 +1,0 @@
-use Rattle.xc_sigmap.specs.Maps.{value_of as map_of}
-use Rattle.xc_machine.proofs.Sound.{map_parts}
-use Rattle.xc_machine.proofs.merged.Merged.is_initial.Goals as goal
-
-pub places_of-places-requires-clause-fit : goal.places_of-places-requires-clause-fit
-places_of-places-requires-clause-fit c = rw c.vars-vars.ensures (map_parts (map_of c.args.self.now.sigmap) c.is_sound.ensures).fit

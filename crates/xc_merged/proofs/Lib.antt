@@ -1,0 +1,11 @@
+pub mod Joining
+pub mod Seeing
+pub mod Stepping
+pub mod Fronts
+pub mod Sound
+pub mod Faultless
+pub mod Tabling
+pub mod Merging
+pub mod Giving
+pub mod Coding
+pub mod Facts
