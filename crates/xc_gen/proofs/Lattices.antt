@@ -1,6 +1,7 @@
 -- A generated view names the lattice of its side.
 use Rattle.std.proofs.Common.{◌≡◌, ℕ, true, List, [], ◌∷◌, ◌++◌, get_or, refl, ap, subst, ◌∙◌}
 use Rattle.xc_base.specs.Formats.{Row, AreStatements}
+use Rattle.xc_view_lines.specs.ViewLines as view_lines
 use Rattle.xc_view.specs.ViewFiles as files
 use Rattle.xc_view.specs.ViewFiles.{is_view, is_lattice, first_lattice, view_format}
 use Rattle.xc_view_lines.specs.ViewLines.{Statement, View, Lattice, Var, Init, Prop, Command, IsStated}
@@ -20,12 +21,12 @@ named_behind (Command name value guard action) t more h = cc
 
 -- a lattice's statement names the file that stands in its row
 named_here : {tokens : List (List ℕ)} {t : Statement} (more : List Statement) → IsStated tokens t → is_lattice t ≡ true → first_lattice (t ∷ more) ≡ get_or tokens 1 []
-named_here more (files.IsStated.lattice file named) h = refl
-named_here more (files.IsStated.view name named) h = cc
-named_here more (files.IsStated.var name value values named all) h = cc
-named_here more (files.IsStated.init tokens guard read) h = cc
-named_here more (files.IsStated.prop name value tokens guard named valued read) h = cc
-named_here more (files.IsStated.command name value tokens rest guard action named valued read done) h = cc
+named_here more (view_lines.IsStated.lattice file named) h = refl
+named_here more (view_lines.IsStated.view name named) h = cc
+named_here more (view_lines.IsStated.var name value values named all) h = cc
+named_here more (view_lines.IsStated.init tokens guard read) h = cc
+named_here more (view_lines.IsStated.prop name value tokens guard named valued read) h = cc
+named_here more (view_lines.IsStated.command name value tokens rest guard action named valued read done) h = cc
 
 -- by the first rows the lattice is known
 lattice_read : (side : Side) (back : List Row) (ss : List Statement) → AreStatements view_format [] (view_front side ++ back) ss → first_lattice ss ≡ lattice_of side
