@@ -1,4 +1,2 @@
-pub mod Changes
 pub mod Keys
-pub mod Sources
 pub mod Written

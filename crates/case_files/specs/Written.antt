@@ -1,8 +1,8 @@
 -- How a change is written.
 use Rattle.std.specs.Prelude.{codes, ◌≡◌, ℕ, ℤ, pos, List, Option, Some, None, option_and_then}
 use Rattle.toml.specs.Data.{Members, get_member, as_str, as_integer}
-use Rattle.case_files.specs.declared.changing.Change.{Change}
-use Rattle.case_files.specs.declared.changing.Change.TheVariants.{Replace, Insert, Append, Remove, Cut, Repeat, SetByte}
+use Rattle.case_texts.specs.declared.changing.Change.{Change}
+use Rattle.case_texts.specs.declared.changing.Change.TheVariants.{Replace, Insert, Append, Remove, Cut, Repeat, SetByte}
 
 -- the text and the number at a key
 abbrev pub text_at : List ℕ → Members → Option (List ℕ)

@@ -5,7 +5,7 @@ ghost use Rattle.toml.specs.Data.{as_str, as_integer, get_member};
 ghost use Rattle.toml.specs.View.{view, table_view};
 ghost use Rattle.case_files.specs.Keys.{IsRead};
 
-use crate::fault::{KeyFault, NameFault, Why, name_fault};
+use case_texts::{KeyFault, NameFault, Why, name_fault};
 use std::alloc::Global;
 use toml::{Table, Value};
 

@@ -1,8 +1,8 @@
-use crate::case::Case;
-use crate::fault::{CaseFault, Fault, Why};
+use case_texts::{Case};
+use case_texts::{CaseFault, Fault, Why};
 use crate::keys::{list_at, only_keys, table_in};
 use crate::making::case_of;
-use crate::sources::Sources;
+use case_texts::{Sources};
 use std::alloc::{AllocError, Global};
 use std::mem;
 use toml::Table;

@@ -5,8 +5,8 @@ ghost use Rattle.toml.specs.Data.{as_integer, get_member};
 ghost use Rattle.toml.specs.View.{table_view};
 ghost use Rattle.case_files.specs.Written.{IsWritten};
 
-use crate::changing::Change;
-use crate::fault::{KeyFault, NameFault, Why, name_fault};
+use case_texts::{Change};
+use case_texts::{KeyFault, NameFault, Why, name_fault};
 use crate::keys::{needed_number, needed_text, number_at, only_keys, text_at};
 use std::alloc::Global;
 use toml::Table;

@@ -1,3 +1,1 @@
-pub mod Expectations
-pub mod Tallies
 pub mod Verdicts

@@ -1,7 +1,11 @@
--- What came of a case.
+-- What came of a case, and how the program ends.
 use Rattle.std.specs.Prelude.{Bool, true, false, ⊤}
-use Rattle.cases.specs.Expectations.{IsAsExpected}
-use Rattle.case_files.specs.declared.case.Expected.{Expected}
+use Rattle.case_texts.specs.declared.case.Ending.{Ending}
+use Rattle.case_texts.specs.declared.case.Ending.TheVariants as endings
+use Rattle.xc_lines.specs.declared.status.Status.{Status}
+use Rattle.xc_lines.specs.declared.status.Status.TheVariants.{Done, No, Words, Refused, ReadFault, WriteFault, Memory}
+use Rattle.case_texts.specs.Expectations.{IsAsExpected}
+use Rattle.case_texts.specs.declared.case.Expected.{Expected}
 use Rattle.cases.specs.declared.judging.Verdict.{Verdict}
 use Rattle.cases.specs.declared.judging.Verdict.TheVariants.{Passed, Differs}
 
@@ -14,3 +18,13 @@ IsJust expected (Differs told) = ⊤
 abbrev pub has_passed : Verdict → Bool
 has_passed (Passed ran) = true
 has_passed (Differs told) = false
+
+-- how a run with that status ends
+abbrev pub ending_of : Status → Ending
+ending_of Done = endings.Done
+ending_of No = endings.No
+ending_of Words = endings.Words
+ending_of Refused = endings.Refused
+ending_of ReadFault = endings.ReadFault
+ending_of WriteFault = endings.WriteFault
+ending_of Memory = endings.Memory

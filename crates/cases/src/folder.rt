@@ -1,6 +1,6 @@
 //! The files of a folder.
 
-use case_files::{Fault, NamedText};
+use case_texts::{Fault, NamedText};
 use std::alloc::{AllocError, Global};
 use std::rt::Files;
 use std::{fs, io};
@@ -25,7 +25,7 @@ fn names_in<R: Files + AllocGlobal + Clone + Drop>(
 }
 
 /// All files of a folder, in the order of their names.
-pub fn files_in<R: Files + AllocGlobal + Clone + Drop>(
+pub(crate) fn files_in<R: Files + AllocGlobal + Clone + Drop>(
     rt: &R,
     folder: &str,
 ) -> Result<Vec<NamedText>, Fault> {

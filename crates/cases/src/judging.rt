@@ -1,15 +1,15 @@
 ghost use Rattle.std.specs.Prelude.{IfOk};
 ghost use Rattle.cases.specs.Verdicts.{IsJust};
 
-use crate::running::{Ran, Turn, run_once};
+use crate::running::{Turn, run_once};
 use crate::turns::{difference, err_puts_in_turn, loads_in_turn, puts_in_turn};
-use case_files::{Case, Each, NamedText};
+use case_texts::{Case, Each, NamedText, Ran};
 use std::alloc::Global;
 use xc_base::Memory;
 
 /// What came of a case.
 #[derive(Drop)]
-pub enum Verdict {
+pub(crate) enum Verdict {
     /// All its runs are as expected. This is the first one.
     Passed(Ran),
     /// A run is not, and how.
@@ -32,7 +32,7 @@ fn in_turn(
 }
 
 /// Runs a case, and compares.
-pub fn judge(alloc: Global, examples: &[NamedText], case: &Case) -> Result<Verdict, Memory>
+pub(crate) fn judge(alloc: Global, examples: &[NamedText], case: &Case) -> Result<Verdict, Memory>
     ensures { IfOk result (IsJust case.now.expected) }
 {
     let ran = run_once(alloc, examples, case, Turn::None)?;

@@ -1,17 +1,15 @@
 //! Runs the program on cases that are data, and compares what it answers with what is expected of it.
 #![tactic(auto)]
 
-mod comparing;
 mod folder;
 mod judging;
 mod running;
 mod suite;
-mod tally;
 mod telling;
 mod turns;
 mod watched;
 
-use case_files::Fault;
+use case_texts::Fault;
 use folder::files_in;
 use std::io;
 use std::process::ExitCode;

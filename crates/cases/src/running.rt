@@ -1,44 +1,33 @@
 ghost use Rattle.std.specs.Prelude.{◌≡◌, ◌<◌};
-ghost use Rattle.cases.specs.Expectations.{status_of};
+ghost use Rattle.case_texts.specs.Expectations.{status_of};
 
 use crate::watched::WatchedShelf;
-use case_files::{Case, Ending, NamedText};
+use case_texts::{Case, Ending, NamedText, Ran};
 use std::alloc::Global;
 use xc_base::{Memory, MemoryShelf, MemorySink};
 use xc_top::{Status, run};
 
 /// The one more call that fails in a run, if there is one.
 #[derive(Clone, Copy, Debug, Drop)]
-pub enum Turn {
+pub(crate) enum Turn {
     None,
     Load(u64),
     Put(u64),
     ErrPut(u64),
 }
 
-/// What a run leaves.
-#[derive(Drop)]
-pub struct Ran {
-    pub status: Status,
-    pub out: MemorySink,
-    pub err: MemorySink,
-    /// The names of all loads in order, and of those that failed.
-    pub loads: Vec<String>,
-    pub failed: Vec<String>,
-}
-
-/// The status with which such a run ends.
-pub fn status_of(ending: Ending) -> Status
-    ensures { result ≡ status_of ending }
+/// How a run with that status ends.
+fn ending_of(status: Status) -> Ending
+    ensures { result ≡ ending_of status }
 {
-    match ending {
-        Ending::Done => Status::Done,
-        Ending::No => Status::No,
-        Ending::Words => Status::Words,
-        Ending::Refused => Status::Refused,
-        Ending::ReadFault => Status::ReadFault,
-        Ending::WriteFault => Status::WriteFault,
-        Ending::Memory => Status::Memory,
+    match status {
+        Status::Done => Ending::Done,
+        Status::No => Ending::No,
+        Status::Words => Ending::Words,
+        Status::Refused => Ending::Refused,
+        Status::ReadFault => Ending::ReadFault,
+        Status::WriteFault => Ending::WriteFault,
+        Status::Memory => Ending::Memory,
     }
 }
 
@@ -82,7 +71,7 @@ fn sink_of(
 }
 
 /// Runs the words of a case once.
-pub fn run_once(
+pub(crate) fn run_once(
     alloc: Global,
     examples: &[NamedText],
     case: &Case,
@@ -102,9 +91,9 @@ pub fn run_once(
     };
     let status = run(alloc, &case.words, &mut shelf, &mut out, &mut err);
     Ok(Ran {
-        status,
-        out,
-        err,
+        ending: ending_of(status),
+        out: Vec::from_slice(alloc, out.bytes())?,
+        err: Vec::from_slice(alloc, err.bytes())?,
         loads: shelf.loads,
         failed: shelf.failed,
     })

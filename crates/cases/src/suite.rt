@@ -1,14 +1,14 @@
 ghost use Rattle.std.specs.Prelude.{◌≡◌, OnOk};
 
 use crate::judging::{Verdict, judge};
-use crate::tally::Tally;
-use case_files::{Case, Fault, NamedText, Sources, parts_of};
+use case_files::parts_of;
+use case_texts::{Case, Fault, NamedText, Sources, Tally};
 use std::alloc::{AllocError, Global};
 use xc_base::Memory;
 
 /// The example files, and what came of the cases so far.
 #[derive(Drop)]
-pub struct Suite {
+pub(crate) struct Suite {
     examples: Vec<NamedText>,
     outs: Vec<NamedText>,
     tally: Tally,
@@ -16,11 +16,11 @@ pub struct Suite {
 }
 
 impl Suite {
-    ghost use Rattle.cases.specs.Tallies.{counted};
+    ghost use Rattle.case_texts.specs.Tallies.{counted};
     ghost use Rattle.cases.specs.Verdicts.{has_passed};
 
     /// A suite without example files, of which no case was run.
-    pub fn new(alloc: Global) -> Suite {
+    pub(crate) fn new(alloc: Global) -> Suite {
         Suite {
             examples: Vec::new(alloc),
             outs: Vec::new(alloc),
@@ -30,17 +30,17 @@ impl Suite {
     }
 
     /// Puts these example files on the shelf of each case.
-    pub fn set_examples(&mut self, examples: Vec<NamedText>) {
+    pub(crate) fn set_examples(&mut self, examples: Vec<NamedText>) {
         self.examples = examples;
     }
 
     /// How many cases passed and failed.
-    pub fn tally(&self) -> Tally {
+    pub(crate) fn tally(&self) -> Tally {
         self.tally
     }
 
     /// How cases differ from what is expected of them.
-    pub fn report(&self) -> &str {
+    pub(crate) fn report(&self) -> &str {
         self.report.as_str()
     }
 
@@ -57,7 +57,7 @@ impl Suite {
         let bytes = match verdict {
             Verdict::Passed(ran) => {
                 self.tally.count(true);
-                Vec::from_slice(alloc, ran.out.bytes())?
+                ran.out
             }
             Verdict::Differs(told) => {
                 self.tally.count(false);
@@ -78,7 +78,7 @@ impl Suite {
     }
 
     /// Runs the cases of a file, one after the other.
-    pub fn run_file(&mut self, alloc: Global, file: &str, text: &str) -> Result<(), Fault> {
+    pub(crate) fn run_file(&mut self, alloc: Global, file: &str, text: &str) -> Result<(), Fault> {
         for part in parts_of(alloc, text)? {
             let sources = Sources {
                 examples: self.examples.as_slice(),

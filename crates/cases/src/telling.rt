@@ -1,12 +1,10 @@
 //! What is told of a run that is not as expected.
 
-use crate::comparing::Part;
-use crate::running::{Ran, Turn, status_of};
-use case_files::{Expectation, Expected};
+use crate::running::Turn;
+use case_texts::{Difference, Ending, Expectation, Expected, Ran};
 use std::alloc::{AllocError, Global};
 use std::fmt;
 use std::fmt::Write;
-use xc_top::Status;
 
 impl fmt::Display for Turn {
     fn fmt<W: fmt::Write>(&self, f: &mut fmt::Formatter<W>) -> fmt::Result {
@@ -19,28 +17,27 @@ impl fmt::Display for Turn {
     }
 }
 
-impl fmt::Display for Part {
-    fn fmt<W: fmt::Write>(&self, f: &mut fmt::Formatter<W>) -> fmt::Result {
-        f.write_str(match self {
-            Part::Status => "the status",
-            Part::Out => "out",
-            Part::Err => "err",
-            Part::Failed => "the list of failed loads",
-            Part::Loads => "the list of loads",
-        })
+/// What a difference is one of.
+fn place_word(difference: Difference) -> &'static str {
+    match difference {
+        Difference::Status => "the status",
+        Difference::Out => "out",
+        Difference::Err => "err",
+        Difference::Failed => "the list of failed loads",
+        Difference::Loads => "the list of loads",
     }
 }
 
 /// The word of a status in a case file.
-fn word_of(status: Status) -> &'static str {
-    match status {
-        Status::Done => "done",
-        Status::No => "no",
-        Status::Words => "words",
-        Status::Refused => "refused",
-        Status::ReadFault => "read fault",
-        Status::WriteFault => "write fault",
-        Status::Memory => "memory",
+fn word_of(ending: Ending) -> &'static str {
+    match ending {
+        Ending::Done => "done",
+        Ending::No => "no",
+        Ending::Words => "words",
+        Ending::Refused => "refused",
+        Ending::ReadFault => "read fault",
+        Ending::WriteFault => "write fault",
+        Ending::Memory => "memory",
     }
 }
 
@@ -83,24 +80,25 @@ fn tell_names(
 }
 
 /// How a run differs from what is expected of it.
-pub fn told(
+pub(crate) fn told(
     alloc: Global,
     turn: Turn,
-    part: Part,
+    difference: Difference,
     expected: &Expected,
     ran: &Ran,
 ) -> Result<String, AllocError> {
     let mut told = String::new(alloc);
-    writeln!(told, "  {turn}{part} is not as expected")?;
-    let (wanted, found) = (word_of(status_of(expected.ending)), word_of(ran.status));
+    let place = place_word(difference);
+    writeln!(told, "  {turn}{place} is not as expected")?;
+    let (wanted, found) = (word_of(expected.ending), word_of(ran.ending));
     writeln!(told, "    status: expected {wanted}, got {found}")?;
-    match part {
-        Part::Out => tell_text(alloc, &mut told, &expected.out, ran.out.bytes())?,
-        Part::Status | Part::Err => {
-            tell_text(alloc, &mut told, &expected.err, ran.err.bytes())?;
+    match difference {
+        Difference::Out => tell_text(alloc, &mut told, &expected.out, ran.out.as_slice())?,
+        Difference::Status | Difference::Err => {
+            tell_text(alloc, &mut told, &expected.err, ran.err.as_slice())?;
         }
-        Part::Failed => tell_names(&mut told, &expected.failed, &ran.failed)?,
-        Part::Loads => {
+        Difference::Failed => tell_names(&mut told, &expected.failed, &ran.failed)?,
+        Difference::Loads => {
             let names = expected.loads.as_ref().unwrap_or(&expected.failed);
             tell_names(&mut told, names, &ran.loads)?;
         }

@@ -1,12 +1,11 @@
 //! Further runs of a case, in which one call after another fails.
 
 ghost use Rattle.std.specs.Prelude.{◌↔◌, IfOk, IsNone};
-ghost use Rattle.cases.specs.Expectations.{IsAsExpected};
+ghost use Rattle.case_texts.specs.Expectations.{IsAsExpected};
 
-use crate::comparing::first_difference;
-use crate::running::{Ran, Turn, run_once, status_of};
+use crate::running::{Turn, run_once};
 use crate::telling::told;
-use case_files::{Case, Ending, Expectation, Expected, NamedText};
+use case_texts::{Case, Ending, Expectation, Expected, NamedText, Ran, first_difference};
 use std::alloc::{AllocError, Global};
 use xc_base::Memory;
 
@@ -17,7 +16,7 @@ const MOST_CALLS: u64 = 100_000;
 const NO_END: &str = "    each call that was tried fails the run\n";
 
 /// What a run has that is not expected, as text.
-pub fn difference(
+pub(crate) fn difference(
     alloc: Global,
     turn: Turn,
     expected: &Expected,
@@ -91,7 +90,7 @@ fn after_load(alloc: Global, loads: &[String], name: &String) -> Result<Expected
 }
 
 /// Runs a case with each put on out failing, up to the first run that ends as without a failure.
-pub fn puts_in_turn(
+pub(crate) fn puts_in_turn(
     alloc: Global,
     examples: &[NamedText],
     case: &Case,
@@ -100,7 +99,7 @@ pub fn puts_in_turn(
     for call in 1..=MOST_CALLS {
         let turn = Turn::Put(call);
         let ran = run_once(alloc, examples, case, turn)?;
-        if ran.status == status_of(case.expected.ending) {
+        if ran.ending == case.expected.ending {
             return Ok(difference(alloc, turn, &case.expected, &ran)?);
         }
         if let Some(told) = difference(alloc, turn, &expected, &ran)? {
@@ -111,7 +110,7 @@ pub fn puts_in_turn(
 }
 
 /// Runs a case with each put on err failing, up to the first run whose err is whole.
-pub fn err_puts_in_turn(
+pub(crate) fn err_puts_in_turn(
     alloc: Global,
     examples: &[NamedText],
     case: &Case,
@@ -131,7 +130,7 @@ pub fn err_puts_in_turn(
 }
 
 /// Runs a case with each of its loads failing, and with the one that comes after them.
-pub fn loads_in_turn(
+pub(crate) fn loads_in_turn(
     alloc: Global,
     examples: &[NamedText],
     case: &Case,

@@ -4,8 +4,8 @@ use std::alloc::Global;
 use xc_base::{LoadFault, MemoryShelf, Shelf};
 
 /// A shelf in memory that keeps the names of the loads, and of those that failed.
-#[derive(Debug, Drop)]
-pub struct WatchedShelf {
+#[derive(Drop)]
+pub(crate) struct WatchedShelf {
     pub shelf: MemoryShelf,
     pub loads: Vec<String>,
     pub failed: Vec<String>,

@@ -12,10 +12,11 @@ use Rattle.xc_lines.specs.Texts.{read_line}
 use Rattle.xc_lines.specs.declared.halt.Halt.{Halt}
 use Rattle.xc_lines.specs.declared.halt.Halt.TheVariants.{Words, Refused, ReadFault, WriteFault, Memory}
 use Rattle.xc_lines.specs.declared.passed.Passed.{Passed}
-use Rattle.xc_course.specs.Courses.{Course, Event, Ends, Loading, Outcome, Refusal, always}
+use Rattle.xc_course.specs.Courses.{Course, Event, Ends, Loading, Outcome, Refusal, always, IsServed}
 use Rattle.xc_course.specs.Loads.{FailedOnce, KeepsOrFails, TellsSame}
 use Rattle.xc_course.specs.Trees.{Tree, Refuse, Happens, Unless}
-use Rattle.xc_course.specs.Works.{CameTo, EndsSo, EndsWith, GetsAll, GetsPart, GetsPartOrAll, IsServed, LeavesOn, LeavesTold, Works}
+use Rattle.xc_course.specs.Works.{CameTo, EndsSo, EndsWith, LeavesOn, LeavesTold, Works}
+use Rattle.xc_course.specs.Items.{GetsAll, GetsPart, GetsPartOrAll}
 
 -- where each load finds nothing
 abbrev pub some_moments : ℕ → List File

@@ -17,6 +17,16 @@ pub data Outcome : Type 0 where
   Refusal : List ℕ → Outcome
   Served : Status → List Item → Outcome
 
+-- the outcome is a refusal with a line of which P holds
+abbrev pub IsRefusal : (List ℕ → Type 0) → Outcome → Type 0
+IsRefusal P (Refusal line) = P line
+IsRefusal _ _ = ⊥
+
+-- the outcome is served, and P holds of its status and its items
+abbrev pub IsServed : (Status → List Item → Type 0) → Outcome → Type 0
+IsServed P (Served status items) = P status items
+IsServed _ _ = ⊥
+
 -- What may happen in a course: it ends with an outcome, or a load of that name is reached.
 pub data Event : Type 0 where
   Ends : Outcome → Event

@@ -1,6 +1,7 @@
 -- What out gets of a served request: items one after another, each with a text of its own.
 use Rattle.std.specs.Prelude.{◌≡◌, ◌⊎◌, ℕ, Bool, sum, List, [], ◌∷◌, ◌++◌, Option, Some, None}
 use Rattle.xc_theory.specs.Chains.{IsHeight}
+use Rattle.xc_base.specs.Sinks.{Sunk}
 use Rattle.xc_lattice.specs.LatticeFiles.{LatticeValue}
 use Rattle.xc_product.specs.Heights.{AreHeights}
 use Rattle.xc_merge.specs.Merges.{Merge, parts_of}
@@ -69,3 +70,14 @@ IsPartOrReply items text = IsPart items text ⊎ IsReply items text
 abbrev pub Adds : (List ℕ → Type 0) → Option (List ℕ) → Option (List ℕ) → Type 0
 Adds P None new = new ≡ None
 Adds P (Some old) new = (text : List ℕ) × P text × (new ≡ Some (old ++ text))
+
+-- what out gets of the items: a text of each; the first ones, but not all, and then a part of the next one at most; such a part,
+-- or all
+abbrev pub GetsAll : Sunk → Sunk → List Item → Type 0
+GetsAll out out_after items = Adds (IsReply items) out.bytes out_after.bytes
+
+abbrev pub GetsPart : Sunk → Sunk → List Item → Type 0
+GetsPart out out_after items = Adds (IsPart items) out.bytes out_after.bytes
+
+abbrev pub GetsPartOrAll : Sunk → Sunk → List Item → Type 0
+GetsPartOrAll out out_after items = Adds (IsPartOrReply items) out.bytes out_after.bytes

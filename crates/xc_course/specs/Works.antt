@@ -9,34 +9,10 @@ use Rattle.xc_lines.specs.Texts.{read_line}
 use Rattle.xc_lines.specs.declared.halt.Halt.{Halt}
 use Rattle.xc_lines.specs.declared.halt.Halt.TheVariants.{Words, Refused, ReadFault, WriteFault, Memory}
 use Rattle.xc_lines.specs.declared.passed.Passed.{Passed}
-use Rattle.xc_lines.specs.declared.status.Status.{Status}
-use Rattle.xc_course.specs.Items.{Item, IsReply, IsPart, IsPartOrReply, Adds}
-use Rattle.xc_course.specs.Courses.{Course, Ends, Outcome, Absent, Refusal, Served, always}
+use Rattle.xc_course.specs.Items.{GetsAll, GetsPart, GetsPartOrAll}
+use Rattle.xc_course.specs.Courses.{Course, Ends, Outcome, Refusal, IsServed, always}
 use Rattle.xc_course.specs.Loads.{FailedOnce, KeepsOrFails, TellsSame}
 use Rattle.xc_course.specs.Trees.{Tree, Happens}
-
--- the outcome is a refusal with a line of which P holds
-abbrev pub IsRefusal : (List ℕ → Type 0) → Outcome → Type 0
-IsRefusal P (Refusal line) = P line
-IsRefusal P (Absent name) = ⊥
-IsRefusal P (Served status items) = ⊥
-
--- the outcome is served, and P holds of its status and its items
-abbrev pub IsServed : (Status → List Item → Type 0) → Outcome → Type 0
-IsServed P (Served status items) = P status items
-IsServed P (Absent name) = ⊥
-IsServed P (Refusal line) = ⊥
-
--- what out gets of the items: a text of each; the first ones, but not all, and then a part of the next one at most; such a part,
--- or all
-abbrev pub GetsAll : Sunk → Sunk → List Item → Type 0
-GetsAll out out_after items = Adds (IsReply items) out.bytes out_after.bytes
-
-abbrev pub GetsPart : Sunk → Sunk → List Item → Type 0
-GetsPart out out_after items = Adds (IsPart items) out.bytes out_after.bytes
-
-abbrev pub GetsPartOrAll : Sunk → Sunk → List Item → Type 0
-GetsPartOrAll out out_after items = Adds (IsPartOrReply items) out.bytes out_after.bytes
 
 -- where each load finds some files, the course ends with that outcome
 pub record CanEnd (tasks : Course) (outcome : Outcome) : Type 0 where
@@ -65,11 +41,9 @@ CameTo tasks shelf shelf_after out out_after (Err Words) = ⊥
 
 -- but where a load failed, and where memory ran out, the shelf tells what it told before
 abbrev pub LeavesOn : Option Told → Option Told → Halt → Type 0
-LeavesOn old new Words = new ≡ old
-LeavesOn old new (Refused line) = new ≡ old
-LeavesOn old new WriteFault = new ≡ old
 LeavesOn old new (ReadFault line) = Unit {0}
 LeavesOn old new Memory = Unit {0}
+LeavesOn old new _ = new ≡ old
 
 -- the same of a result
 abbrev pub LeavesTold : {X : Type 0} → Option Told → Option Told → Result X Halt → Type 0

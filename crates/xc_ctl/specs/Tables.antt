@@ -35,8 +35,6 @@ nodes_of tree = nodes_from 0 tree
 
 -- the children of a node; where it has none, or only one, what is said of the other is not used
 abbrev pub first_child : Kind → ℕ
-first_child (Const c) = 0
-first_child (Atom p) = 0
 first_child (Not i) = i
 first_child (And i j) = i
 first_child (Or i j) = i
@@ -44,22 +42,17 @@ first_child (Ex i) = i
 first_child (Eu i j) = i
 first_child (Au i j) = i
 first_child (Eg i) = i
+first_child _ = 0
 
 abbrev pub second_child : Kind → ℕ
-second_child (Const c) = 0
-second_child (Atom p) = 0
-second_child (Not i) = 0
 second_child (And i j) = j
 second_child (Or i j) = j
-second_child (Ex i) = 0
 second_child (Eu i j) = j
 second_child (Au i j) = j
-second_child (Eg i) = 0
+second_child _ = 0
 
 -- the children of a node have numbers below k
 abbrev pub has_children_below : ℕ → Kind → Bool
-has_children_below k (Const c) = true
-has_children_below k (Atom p) = true
 has_children_below k (Not i) = nat_lt i k
 has_children_below k (And i j) = nat_lt i k && nat_lt j k
 has_children_below k (Or i j) = nat_lt i k && nat_lt j k
@@ -67,6 +60,7 @@ has_children_below k (Ex i) = nat_lt i k
 has_children_below k (Eu i j) = nat_lt i k && nat_lt j k
 has_children_below k (Au i j) = nat_lt i k && nat_lt j k
 has_children_below k (Eg i) = nat_lt i k
+has_children_below _ _ = true
 
 -- of nodes numbered from k on each has its children before it
 abbrev pub are_ordered_from : ℕ → List Kind → Bool
@@ -81,13 +75,7 @@ is_table nodes = nat_le 1 (length nodes) && nat_le (length nodes) 256 && are_ord
 abbrev pub is_kind_in : ℕ → ℕ → Kind → Bool
 is_kind_in elements props (Const c) = nat_lt c elements
 is_kind_in elements props (Atom p) = nat_lt p props
-is_kind_in elements props (Not i) = true
-is_kind_in elements props (And i j) = true
-is_kind_in elements props (Or i j) = true
-is_kind_in elements props (Ex i) = true
-is_kind_in elements props (Eu i j) = true
-is_kind_in elements props (Au i j) = true
-is_kind_in elements props (Eg i) = true
+is_kind_in _ _ _ = true
 
 abbrev pub is_table_in : ℕ → ℕ → List Kind → Bool
 is_table_in elements props nodes = list_all (is_kind_in elements props) nodes

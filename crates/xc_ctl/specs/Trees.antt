@@ -53,16 +53,14 @@ is_tree_in elements props (Au s t) = is_tree_in elements props s && is_tree_in e
 is_tree_in elements props (Eg t) = is_tree_in elements props t
 
 abbrev pub both : {X Y Z : Type 0} → (X → Y → Z) → Option X → Option Y → Option Z
-both f None o = None
-both f (Some x) None = None
 both f (Some x) (Some y) = Some (f x y)
+both _ _ _ = None
 
 -- the elements of these names, one of each part
 abbrev pub digits_named : List (List (List ℕ)) → List (List ℕ) → Option (List ℕ)
 digits_named [] [] = Some []
-digits_named [] (v ∷ values) = None
-digits_named (names ∷ parts) [] = None
 digits_named (names ∷ parts) (v ∷ values) = both (λ digit row. digit ∷ row) (position (bytes_eq v) names) (digits_named parts values)
+digits_named _ _ = None
 
 abbrev pub element_named : List (List (List ℕ)) → List (List ℕ) → Option ℕ
 element_named parts values = option_map (code_of (sizes_of parts)) (digits_named parts values)

@@ -13,9 +13,8 @@ values n f = map f (range_with_len 0 n)
 -- each element comes before its counterpart, and none is without one
 abbrev pub AreListsBefore : Operations → Bool → List ℕ → List ℕ → Type 0
 AreListsBefore o up [] [] = Unit {0}
-AreListsBefore o up [] (y ∷ ys) = ⊥
-AreListsBefore o up (x ∷ xs) [] = ⊥
 AreListsBefore o up (x ∷ xs) (y ∷ ys) = Before o up x y × AreListsBefore o up xs ys
+AreListsBefore _ _ _ _ = ⊥
 
 -- n elements that the step, of the function whose values they are, gives again
 pub record IsFixedList (o : Operations) (n : ℕ) (step : Step) (xs : List ℕ) : Type 0 where

@@ -1,11 +1,13 @@
 -- Names among names, and the statements that have them, as loops go over them.
 use Rattle.std.proofs.Common.{◌≡◌, ℕ, suc, ◌+◌, ◌<◌, ◌≤◌, Bool, true, false, if◌then◌else◌, not, List, [], ◌∷◌, ◌++◌, Option, Some, None, length, get_or, drop, drop-cons, add-one, refl, arith}
 use Rattle.std.specs.List.{list_any, find}
+use Rattle.std.specs.Option.{option_map}
 use Rattle.std.specs.Str.{bytes_eq}
+use Rattle.xc_base.specs.declared.fault.Part.TheVariants as parts
 use Rattle.xc_lattice.specs.Drafts.{file_name, pairs_of, negated_by}
 use Rattle.xc_lattice.specs.declared.statement.Statement.{Statement}
 use Rattle.xc_lattice.specs.declared.statement.Statement.TheVariants.{Lattice, Elements, Below, Not}
-use Rattle.xc_lattice.specs.LatticeFiles.{element_names, negates, negation_part, missing_part, element_excess}
+use Rattle.xc_lattice.specs.LatticeFiles.{element_names, negates, missing_part, element_excess}
 
 pub elements_from : (statements : List Statement) (i : ℕ) (d : Statement) → i < length statements → element_names (drop i statements) ≡ element_names (get_or statements i d ∷ drop (i + 1) statements)
 elements_from statements i d h = rw (add-one, drop-cons statements i d)
@@ -42,7 +44,7 @@ pub negated_from : (statements : List Statement) (i : ℕ) (d : Statement) (name
 negated_from statements i d name h = rw (add-one, drop-cons statements i d) (negated_cons name (get_or statements i d) (drop (suc i) statements))
 
 -- behind the elements the first part that lacks is a negation
-pub missing_late : (statements : List Statement) → 2 ≤ length statements → missing_part statements ≡ negation_part (find (λ name. not (list_any (negates name) statements)) (element_names statements))
+pub missing_late : (statements : List Statement) → 2 ≤ length statements → missing_part statements ≡ option_map parts.Not (find (λ name. not (list_any (negates name) statements)) (element_names statements))
 missing_late [] h = absurd (omega arith)
 missing_late (s ∷ []) h = absurd (omega arith)
 missing_late (s ∷ t ∷ more) h = refl

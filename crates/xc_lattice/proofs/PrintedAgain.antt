@@ -2,7 +2,9 @@
 use Rattle.std.proofs.Common.{◌≡◌, ℕ, zero, suc, ◌<◌, ◌≤◌, ◌+◌, Bool, true, false, cond, not, eqb, ◌&&◌, nat_le, if◌then◌else◌, List, [], ◌∷◌, ◌++◌, length, map, get_or, append_assoc, append-nil, Some, None, ◌⊎◌, inl, inr, refl, sym, ◌∙◌, subst, ap, arith}
 use Rattle.std.specs.Prelude.{filter, find}
 use Rattle.std.specs.List.{list_any, list_all, flat_map, range_with_len}
+use Rattle.std.specs.Option.{option_map}
 use Rattle.std.specs.Str.{bytes_eq}
+use Rattle.xc_base.specs.declared.fault.Part.TheVariants as parts
 use Rattle.std.proofs.lemmas.Bool.{cases_Bool, cases_eq, and_parts, and_from, or_from, or_right, false_from_ne_true, ne_eqb, lt-ltb, le-leb, not_from_false, not_from_true}
 use Rattle.std.proofs.lemmas.List.Folds.{list_any_at}
 use Rattle.std.proofs.lemmas.List.Sums.{AllPass-from_list_all}
@@ -19,7 +21,7 @@ use Rattle.xc_base.proofs.CanonicalTexts.{numbered_more, numbered_none}
 use Rattle.xc_base.proofs.Naming.{same_bytes, bytes_refl, among_at, among_in_range, name_at-place_of, same_place, in_range}
 use Rattle.xc_lattice.specs.declared.statement.Statement.{Statement}
 use Rattle.xc_lattice.specs.declared.statement.Statement.TheVariants.{Lattice, Elements, Below, Not}
-use Rattle.xc_lattice.specs.LatticeFiles.{LatticeValue, spelling, negates, negation_part, missing_part, SaysBelow, SaysNegation, lattice_format}
+use Rattle.xc_lattice.specs.LatticeFiles.{LatticeValue, spelling, negates, missing_part, SaysBelow, SaysNegation, lattice_format}
 use Rattle.xc_lattice.specs.Drafts.{IsFact, AreFacts, IsReady}
 use Rattle.xc_lattice.specs.Printed.{is_strictly_below, below_statements, not_statements, printed, lattice_lines}
 use Rattle.xc_lattice.proofs.Drafts.{Has, Contains-from_Has, Has-from_Contains}
@@ -297,7 +299,7 @@ module _ (v : LatticeValue) (r : IsReady v) where
 
   no_part_lacks : missing_part (printed v) ≡ None
   no_part_lacks =
-      ap negation_part (find_no (λ name. not (list_any (negates name) (printed v))) v.names (λ k within. not_from_true _ (each_negated k within)))
+      ap (option_map parts.Not) (find_no (λ name. not (list_any (negates name) (printed v))) v.names (λ k within. not_from_true _ (each_negated k within)))
 
   said_below : (a b : ℕ) → a < length v.names → b < length v.names → (a ≡ b → ⊥) → is_below v.algebra.order a b ≡ true → SaysBelow (printed v) v.names a b
   said_below a b a_in b_in h k =

@@ -1,6 +1,7 @@
 -- What a reader gathers from the statements of a whole file is what they say.
 use Rattle.std.proofs.Common.{◌≡◌, ℕ, zero, suc, ◌<◌, ◌≤◌, Bool, true, false, cond, not, ◌||◌, List, [], ◌∷◌, Option, Some, None, length, get_or, inl, inr, refl, sym, ◌∙◌, subst, ap, arith}
 use Rattle.std.specs.List.{list_all, list_any, find, Contains}
+use Rattle.std.specs.Option.{option_map}
 use Rattle.std.specs.Str.{bytes_eq}
 use Rattle.std.proofs.lemmas.List.{length-map, get_or-map}
 use Rattle.xc_base.specs.declared.fault.Part.TheVariants as parts
@@ -10,7 +11,7 @@ use Rattle.xc_order.specs.declared.order.Pair.{Pair}
 use Rattle.xc_order.specs.Pairs.{IsListed, AreBelow}
 use Rattle.xc_lattice.specs.declared.statement.Statement.{Statement}
 use Rattle.xc_lattice.specs.declared.statement.Statement.TheVariants.{Lattice, Elements, Below, Not}
-use Rattle.xc_lattice.specs.LatticeFiles.{LatticeValue, Says, SaysBelow, SaysNegation, negates, element_names, negation_part, missing_part}
+use Rattle.xc_lattice.specs.LatticeFiles.{LatticeValue, Says, SaysBelow, SaysNegation, negates, element_names, missing_part}
 use Rattle.xc_base.specs.Words.{is_name}
 use Rattle.xc_base.specs.Names.{has_twice, name_at, place_of}
 use Rattle.xc_lattice.specs.Drafts.{IsDraft, file_name, pairs_of, negated_by, place_or_end, negation_place, negations_of, IsReady}
@@ -117,7 +118,7 @@ module _ (ss : List Statement) (d : IsDraft ss) where
 some_is_not : {X : Type 0} (x : X) → Some x ≡ None → ⊥
 some_is_not x e = cc
 
-no_part : (o : Option (List ℕ)) → negation_part o ≡ None → o ≡ None
+no_part : (o : Option (List ℕ)) → option_map parts.Not o ≡ None → o ≡ None
 no_part None h = refl
 no_part (Some name) h = absurd (some_is_not (parts.Not name) h)
 

@@ -13,10 +13,9 @@ use Rattle.xc_base.specs.Names.{is_among, has_twice, place_of}
 
 -- a statement on elements of these names, which negates none that the statements before it negate
 abbrev pub IsFact : List (List ℕ) → List Statement → Statement → Type 0
-IsFact names before (Lattice name) = ⊥
-IsFact names before (Elements others) = ⊥
 IsFact names before (Below low high) = (is_among names low ≡ true) × (is_among names high ≡ true)
 IsFact names before (Not element negated) = (is_among names element ≡ true) × (is_among names negated ≡ true) × (list_any (negates element) before ≡ false)
+IsFact _ _ _ = ⊥
 
 abbrev pub AreFacts : List (List ℕ) → List Statement → List Statement → Type 0
 AreFacts names before [] = Unit {0}
@@ -39,25 +38,19 @@ pub record IsDraft (statements : List Statement) : Type 0 where
 abbrev pub file_name : List Statement → Option (List ℕ)
 file_name [] = None
 file_name (Lattice name ∷ more) = Some name
-file_name (Elements names ∷ more) = file_name more
-file_name (Below low high ∷ more) = file_name more
-file_name (Not element negated ∷ more) = file_name more
+file_name (_ ∷ more) = file_name more
 
 -- the places of what the statements say is below
 abbrev pub pairs_of : List (List ℕ) → List Statement → List Pair
 pairs_of names [] = []
 pairs_of names (Below low high ∷ more) = record { low = place_of names low; high = place_of names high } ∷ pairs_of names more
-pairs_of names (Lattice name ∷ more) = pairs_of names more
-pairs_of names (Elements others ∷ more) = pairs_of names more
-pairs_of names (Not element negated ∷ more) = pairs_of names more
+pairs_of names (_ ∷ more) = pairs_of names more
 
 -- the name that the first statement on an element's negation gives
 abbrev pub negated_by : List Statement → List ℕ → Option (List ℕ)
 negated_by [] name = None
 negated_by (Not element negated ∷ more) name = if bytes_eq name element then Some negated else negated_by more name
-negated_by (Lattice other ∷ more) name = negated_by more name
-negated_by (Elements names ∷ more) name = negated_by more name
-negated_by (Below low high ∷ more) name = negated_by more name
+negated_by (_ ∷ more) name = negated_by more name
 
 -- the place of a name, and the end of the names where there is no name
 abbrev pub place_or_end : List (List ℕ) → Option (List ℕ) → ℕ

@@ -1,5 +1,5 @@
 -- Lattice files: their statements, and what they say.
-use Rattle.std.specs.Prelude.{◌≡◌, ◌<◌, ℕ, Bool, true, false, map, ◌&&◌, not, nat_lt, nat_le, if◌then◌else◌, List, [], ◌∷◌, length, Contains, find, Option, Some, None, codes}
+use Rattle.std.specs.Prelude.{◌≡◌, ◌<◌, ℕ, Bool, true, false, map, ◌&&◌, not, nat_lt, nat_le, if◌then◌else◌, List, [], ◌∷◌, length, Contains, find, Option, Some, None, option_map, codes}
 use Rattle.std.specs.List.{list_any, list_all}
 use Rattle.std.specs.Str.{bytes_eq}
 use Rattle.xc_theory.specs.Orders.{IsSpannedBy}
@@ -53,48 +53,35 @@ pub record IsDue (before : List Statement) (tokens : List (List ℕ)) (s : State
 abbrev pub element_names : List Statement → List (List ℕ)
 element_names [] = []
 element_names (Elements names ∷ more) = names
-element_names (Lattice name ∷ more) = element_names more
-element_names (Below low high ∷ more) = element_names more
-element_names (Not element negated ∷ more) = element_names more
+element_names (_ ∷ more) = element_names more
 
 -- whether the statement gives the element's negation
 abbrev pub negates : List ℕ → Statement → Bool
 negates name (Not element negated) = bytes_eq name element
-negates name (Lattice other) = false
-negates name (Elements names) = false
-negates name (Below low high) = false
+negates _ _ = false
 
 -- an element named twice, or a second negation of one element
 abbrev pub is_repeated : List Statement → Statement → Bool
 is_repeated before (Elements names) = has_twice names
 is_repeated before (Not element negated) = list_any (negates element) before
-is_repeated before (Lattice name) = false
-is_repeated before (Below low high) = false
+is_repeated _ _ = false
 
 -- a name that is no element
 abbrev pub is_unknown : List Statement → Statement → Bool
 is_unknown before (Below low high) = not (is_among (element_names before) low && is_among (element_names before) high)
 is_unknown before (Not element negated) = not (is_among (element_names before) element && is_among (element_names before) negated)
-is_unknown before (Lattice name) = false
-is_unknown before (Elements names) = false
+is_unknown _ _ = false
 
 -- fewer than 2 elements, or more than 64
 abbrev pub element_excess : List Statement → Statement → Option Excess
 element_excess before (Elements names) = if nat_le 2 (length names) && nat_le (length names) 64 then None else Some (record { what = counted.Elements; found = length names })
-element_excess before (Lattice name) = None
-element_excess before (Below low high) = None
-element_excess before (Not element negated) = None
+element_excess _ _ = None
 
--- the first element with no negation
-abbrev pub negation_part : Option (List ℕ) → Option Part
-negation_part None = None
-negation_part (Some name) = Some (parts.Not name)
-
--- the name, then the elements, then the negation of each element in order
+-- the name, then the elements, then the negation of the first element that has none
 abbrev pub missing_part : List Statement → Option Part
 missing_part [] = Some parts.Head
 missing_part (s ∷ []) = Some parts.Elements
-missing_part (s ∷ t ∷ more) = negation_part (find (λ name. not (list_any (negates name) (s ∷ t ∷ more))) (element_names (s ∷ t ∷ more)))
+missing_part (s ∷ t ∷ more) = option_map parts.Not (find (λ name. not (list_any (negates name) (s ∷ t ∷ more))) (element_names (s ∷ t ∷ more)))
 
 -- the statements say that element a is below element b, or that b is the negation of a
 abbrev pub SaysBelow : List Statement → List (List ℕ) → ℕ → ℕ → Type 0

@@ -1,8 +1,9 @@
 ghost use Rattle.std.specs.Prelude.{◌≡◌, ◌≤◌, ◌++◌, ◌∷◌, [], not, length, find, IfOk, OnOk};
 ghost use Rattle.std.specs.List.{list_any, position};
 ghost use Rattle.std.specs.Str.{bytes_eq};
-ghost use Rattle.std.specs.Option.{option_copied};
-ghost use Rattle.xc_lattice.specs.LatticeFiles.{element_names, negates, negation_part, missing_part, Says};
+ghost use Rattle.std.specs.Option.{option_copied, option_map};
+ghost use Rattle.xc_base.specs.declared.fault.Part.TheVariants as parts;
+ghost use Rattle.xc_lattice.specs.LatticeFiles.{element_names, negates, missing_part, Says};
 ghost use Rattle.xc_lattice.specs.Values.{said};
 ghost use Rattle.xc_lattice.specs.Drafts.{IsDraft, file_name, pairs_of, negated_by, negation_place, negations_of};
 ghost use Rattle.xc_base.specs.Names.{place_of};
@@ -33,7 +34,7 @@ fn first_open(statements: &[Statement]) -> Option<&Word>
 
 fn open_part(alloc: Global, statements: &[Statement]) -> Result<Option<Part>, Memory>
     ensures { IfOk result (λ part. part
-        ≡ negation_part (find (λ name. not (list_any (negates name) statements.now)) (element_names statements.now))) }
+        ≡ option_map parts.Not (find (λ name. not (list_any (negates name) statements.now)) (element_names statements.now))) }
 {
     match first_open(statements) {
         Some(name) => {

@@ -13,12 +13,9 @@ laws = Antisymmetry ∷ Meet ∷ Join ∷ Distributive ∷ Involution ∷ Antito
 
 -- of how many elements a law speaks
 abbrev pub arity : Law → ℕ
-arity Antisymmetry = 2
-arity Meet = 2
-arity Join = 2
 arity Distributive = 3
 arity Involution = 1
-arity Antitone = 2
+arity _ = 2
 
 -- the tuples of k elements below n, the first place slowest
 unfoldable pub tuples : ℕ → ℕ → List (List ℕ)

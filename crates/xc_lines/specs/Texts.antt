@@ -39,7 +39,7 @@ law_word Antitone = codes "antitone"
 abbrev pub broken_text : Law → List (List ℕ) → List ℕ
 broken_text law names = line (codes "broken " ++ law_word law ++ flat_map (λ name. 32 ∷ name) names)
 
--- The err lines: for words that are no request, for a file that was not read, for a text that was not written, and for want of
+-- The err lines: for words that are no request, for a file that was not read, for a text that was not written, and out of
 -- memory.
 abbrev pub words_line : List ℕ
 words_line = line (codes "refused words")
@@ -101,33 +101,15 @@ abbrev pub broken_line : List ℕ → Law → List (List ℕ) → List ℕ
 broken_line file law names = line (codes "refused broken " ++ file ++ 32 ∷ law_word law ++ flat_map (λ name. 32 ∷ name) names)
 
 -- For viewpoints that do not merge: a value that is no element, a name that the viewpoint does not have, what is not sent or told
--- whole, too many elements, no initial state, too many of them. A viewpoint has its name in the map.
-abbrev pub value_line : List ℕ → List ℕ → List ℕ
-value_line viewpoint word = line (codes "refused value " ++ viewpoint ++ 32 ∷ word)
-
-abbrev pub name_line : List ℕ → List ℕ → List ℕ
-name_line viewpoint word = line (codes "refused name " ++ viewpoint ++ 32 ∷ word)
-
-abbrev pub total_line : List ℕ → List ℕ → List ℕ
-total_line viewpoint word = line (codes "refused total " ++ viewpoint ++ 32 ∷ word)
-
-abbrev pub product_line : ℕ → List ℕ
-product_line count = line (codes "refused product " ++ decimal count)
-
-abbrev pub no_initial_line : List ℕ
-no_initial_line = line (codes "refused noinitial")
-
-abbrev pub initial_line : ℕ → List ℕ
-initial_line count = line (codes "refused initial " ++ decimal count)
-
--- the line for a fault of a merge (out of memory has none)
+-- whole, too many elements, no initial state, too many of them. A viewpoint has its name in the map. (Out of memory is no fault of
+-- a merge.)
 abbrev pub merge_line : MergeFault → List ℕ
-merge_line (UnknownValue viewpoint value) = value_line viewpoint value
-merge_line (UnknownName viewpoint name) = name_line viewpoint name
-merge_line (NotTotal viewpoint name) = total_line viewpoint name
-merge_line (Elements count) = product_line count
-merge_line NoInitial = no_initial_line
-merge_line (Initial count) = initial_line count
+merge_line (UnknownValue viewpoint value) = line (codes "refused value " ++ viewpoint ++ 32 ∷ value)
+merge_line (UnknownName viewpoint name) = line (codes "refused name " ++ viewpoint ++ 32 ∷ name)
+merge_line (NotTotal viewpoint name) = line (codes "refused total " ++ viewpoint ++ 32 ∷ name)
+merge_line (Elements count) = line (codes "refused product " ++ decimal count)
+merge_line NoInitial = line (codes "refused noinitial")
+merge_line (Initial count) = line (codes "refused initial " ++ decimal count)
 merge_line faults.Memory = memory_line
 
 -- for too many states

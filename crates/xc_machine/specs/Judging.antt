@@ -19,14 +19,10 @@ opposite Open = Open
 
 abbrev pub in_both : Judgement → Judgement → Judgement
 in_both Holds Holds = Holds
-in_both Holds Fails = Fails
 in_both Holds Open = Open
-in_both Fails Holds = Fails
-in_both Fails Fails = Fails
-in_both Fails Open = Fails
 in_both Open Holds = Open
-in_both Open Fails = Fails
 in_both Open Open = Open
+in_both _ _ = Fails
 
 abbrev pub in_one : Judgement → Judgement → Judgement
 in_one a b = opposite (in_both (opposite a) (opposite b))

@@ -112,22 +112,15 @@ first_of (fault ∷ more) later = Some fault
 abbrev pub merge_fault : Merge → Option MergeFault
 merge_fault m = first_of (all_faults m) (limit_fault m)
 
--- whether viewpoints may be refused so
+-- whether viewpoints may be refused so: with their first fault, or out of memory
 abbrev pub IsRefusal : Merge → MergeFault → Type 0
-IsRefusal m (UnknownValue viewpoint value) = merge_fault m ≡ Some (UnknownValue viewpoint value)
-IsRefusal m (UnknownName viewpoint name) = merge_fault m ≡ Some (UnknownName viewpoint name)
-IsRefusal m (NotTotal viewpoint name) = merge_fault m ≡ Some (NotTotal viewpoint name)
-IsRefusal m (Elements count) = merge_fault m ≡ Some (Elements count)
-IsRefusal m NoInitial = merge_fault m ≡ Some NoInitial
-IsRefusal m (Initial count) = merge_fault m ≡ Some (Initial count)
 IsRefusal m Memory = Unit {0}
+IsRefusal m fault = merge_fault m ≡ Some fault
 
 -- whether a search of some faults may end so: with the first of them, or out of memory
 abbrev pub IsFirstOf : List MergeFault → MergeFault → Type 0
 IsFirstOf faults (UnknownValue viewpoint value) = first_of faults None ≡ Some (UnknownValue viewpoint value)
 IsFirstOf faults (UnknownName viewpoint name) = first_of faults None ≡ Some (UnknownName viewpoint name)
 IsFirstOf faults (NotTotal viewpoint name) = first_of faults None ≡ Some (NotTotal viewpoint name)
-IsFirstOf faults (Elements count) = ⊥
-IsFirstOf faults NoInitial = ⊥
-IsFirstOf faults (Initial count) = ⊥
 IsFirstOf faults Memory = Unit {0}
+IsFirstOf _ _ = ⊥

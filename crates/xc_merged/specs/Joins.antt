@@ -26,15 +26,13 @@ holds_there from l = holds_at (test_of l.guard) from
 
 -- what stands at a place in both of two rows
 abbrev pub both : List Bool → List Bool → List Bool
-both [] others = []
-both (a ∷ some) [] = []
 both (a ∷ some) (b ∷ others) = (a && b) ∷ both some others
+both _ _ = []
 
 -- the weights whose tests pass
 abbrev pub picked : List ℕ → List Bool → List ℕ
-picked [] tests = []
-picked (w ∷ weights) [] = []
 picked (w ∷ weights) (t ∷ tests) = if t then w ∷ picked weights tests else picked weights tests
+picked _ _ = []
 
 -- codes joined one after the other, and then with another one
 abbrev pub joined_onto : Operations → ℕ → List ℕ → ℕ

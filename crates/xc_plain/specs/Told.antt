@@ -28,6 +28,5 @@ step_by o rows Always a b z s = always_by o rows a z s
 
 -- the untils are reached going up from the bottom, the other going down from the top
 abbrev pub goes_up : Form → Bool
-goes_up SomeUntil = true
-goes_up EachUntil = true
 goes_up Always = false
+goes_up _ = true

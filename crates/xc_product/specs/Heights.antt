@@ -8,9 +8,8 @@ use Rattle.xc_order.specs.Pairs.{IsListed}
 -- one number for each lattice, which is its height
 abbrev pub AreHeights : List LatticeData → List ℕ → Type 0
 AreHeights [] [] = Unit {0}
-AreHeights [] (height ∷ heights) = ⊥
-AreHeights (l ∷ parts) [] = ⊥
 AreHeights (l ∷ parts) (height ∷ heights) = IsHeight l.order height × AreHeights parts heights
+AreHeights _ _ = ⊥
 
 -- there are such numbers
 abbrev pub HaveHeights : List LatticeData → Type 0

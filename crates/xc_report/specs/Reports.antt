@@ -43,15 +43,10 @@ formula_text marked m number nodes = line marked (codes "formula " ++ decimal nu
 
 -- the word of a kind of fixpoint
 abbrev pub kind_word : Kind → Option (List ℕ)
-kind_word (Const c) = None
-kind_word (Atom p) = None
-kind_word (Not i) = None
-kind_word (And i j) = None
-kind_word (Or i j) = None
-kind_word (Ex i) = None
 kind_word (Eu i j) = Some (codes "EU")
 kind_word (Au i j) = Some (codes "AU")
 kind_word (Eg i) = Some (codes "EG")
+kind_word _ = None
 
 -- for a node that is a fixpoint, after how many rounds it is reached
 abbrev pub rounds_text : Bool → ℕ → ℕ → Option (List ℕ) → List ℕ
@@ -64,15 +59,13 @@ node_text marked nodes table node = rounds_text marked node (table.rounds node) 
 
 -- the variables with the names of their values at the places of a row
 abbrev pub places_text : List Domain → List ℕ → List ℕ
-places_text [] row = []
-places_text (d ∷ vars) [] = []
 places_text (d ∷ vars) (place ∷ row) = 32 ∷ d.name ++ codes "=" ++ name_at d.values place ++ places_text vars row
+places_text _ _ = []
 
 -- the names of digits in a row, each of its part: that byte stands before the first name, and a comma before each other
 abbrev pub digits_text : ℕ → List (List (List ℕ)) → List ℕ → List ℕ
-digits_text before [] row = []
-digits_text before (names ∷ parts) [] = []
 digits_text before (names ∷ parts) (digit ∷ row) = before ∷ name_at names digit ++ digits_text 44 parts row
+digits_text _ _ _ = []
 
 -- an element: a blank, and the names of its digits with commas between them
 abbrev pub element_text : Merge → ℕ → List ℕ

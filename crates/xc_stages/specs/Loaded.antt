@@ -35,9 +35,7 @@ pub record FailedAt (name : List ℕ) (shelf shelf_after : Shelved) (line : List
 abbrev pub IsLoadHalt : List ℕ → Shelved → Shelved → Halt → Type 0
 IsLoadHalt name shelf shelf_after (ReadFault line) = FailedAt name shelf shelf_after (string_bytes line)
 IsLoadHalt name shelf shelf_after Memory = (shelf_after.told ≡ shelf.told) ⊎ (AddsFailed name shelf shelf_after × IsAbsentIfSteady shelf.told name)
-IsLoadHalt name shelf shelf_after Words = ⊥
-IsLoadHalt name shelf shelf_after (Refused line) = ⊥
-IsLoadHalt name shelf shelf_after WriteFault = ⊥
+IsLoadHalt _ _ _ _ = ⊥
 
 -- the count of faults does not fall
 abbrev pub CountsOn : Shelved → Shelved → Type 0
@@ -52,17 +50,13 @@ pub record IsCut (limit : ℕ) (bytes : List ℕ) (rows : List Row) : Type 0 whe
 abbrev pub IsCutHalt : ℕ → List ℕ → List ℕ → Halt → Type 0
 IsCutHalt limit name bytes (Refused line) = MatchOption (text_fault limit bytes) ⊥ (λ fault. string_bytes line ≡ text_line name fault)
 IsCutHalt limit name bytes Memory = Unit {0}
-IsCutHalt limit name bytes Words = ⊥
-IsCutHalt limit name bytes (ReadFault line) = ⊥
-IsCutHalt limit name bytes WriteFault = ⊥
+IsCutHalt _ _ _ _ = ⊥
 
 -- a step of the work that loads nothing stops: with a refusal, of whose line P holds, or since memory ran out
 abbrev pub IsRefusalHalt : (List ℕ → Type 0) → Halt → Type 0
 IsRefusalHalt P (Refused line) = P (string_bytes line)
 IsRefusalHalt P Memory = Unit {0}
-IsRefusalHalt P Words = ⊥
-IsRefusalHalt P (ReadFault line) = ⊥
-IsRefusalHalt P WriteFault = ⊥
+IsRefusalHalt _ _ = ⊥
 
 -- the rows have a first fault, and the line is that of the file
 pub record IsFaultRefusal {S V : Type 0} (format : Format S V) (name : List ℕ) (rows : List Row) (line : List ℕ) : Type 0 where
@@ -79,9 +73,7 @@ pub record IsRead {X : Type 0} (P : List Row → X → Type 0) (limit : ℕ) (by
 abbrev pub IsUnread : (List Row → List ℕ → Type 0) → ℕ → List ℕ → List ℕ → Halt → Type 0
 IsUnread P limit name bytes (Refused line) = MatchOption (text_fault limit bytes) (P (text_rows bytes) (string_bytes line)) (λ fault. string_bytes line ≡ text_line name fault)
 IsUnread P limit name bytes Memory = Unit {0}
-IsUnread P limit name bytes Words = ⊥
-IsUnread P limit name bytes (ReadFault line) = ⊥
-IsUnread P limit name bytes WriteFault = ⊥
+IsUnread _ _ _ _ _ = ⊥
 
 -- the verdict that the code's is of
 abbrev pub verdict_of : Judged → Verdict

@@ -15,16 +15,16 @@ use Rattle.xc_lines.specs.Texts.{read_line}
 use Rattle.xc_lines.specs.declared.halt.Halt.{Halt}
 use Rattle.xc_lines.specs.declared.halt.Halt.TheVariants.{Words, Refused, ReadFault, WriteFault, Memory}
 use Rattle.xc_lines.specs.declared.passed.Passed.{Passed}
-use Rattle.xc_course.specs.Courses.{Outcome, Absent, Refusal, Served, Ends, Loading, always}
-use Rattle.xc_course.specs.Items.{Item, IsPartOrReply, Adds}
+use Rattle.xc_course.specs.Courses.{Outcome, Absent, Refusal, Served, Ends, Loading, always, IsRefusal, IsServed}
+use Rattle.xc_course.specs.Items.{Item, IsPartOrReply, Adds, GetsAll, GetsPart, GetsPartOrAll}
 use Rattle.xc_course.specs.Items.IsPart.{nothing}
 use Rattle.xc_course.specs.Items.IsReply.{none as reply_none}
 use Rattle.xc_course.specs.Loads.{FailedOnce, KeepsOrFails, TellsSame}
 use Rattle.xc_course.specs.Trees.{Happens}
-use Rattle.xc_course.specs.Works.{CameTo, EndsSo, EndsWith, IsRefusal, IsServed, GetsAll, GetsPart, GetsPartOrAll, Works, WorksAlways}
+use Rattle.xc_course.specs.Works.{CameTo, EndsSo, EndsWith, Works, WorksAlways}
 use Rattle.xc_course.proofs.Once.{tree_once}
 use Rattle.xc_eval.specs.Checking.{GenTree}
-use Rattle.xc_top.specs.Calls.{Comes, GetsAtMost, MayLoad}
+use Rattle.xc_top.specs.Calls.{Comes, GetsAtMost}
 use Rattle.xc_top.specs.Requests.{IsOutcome, course_of}
 use Rattle.xc_top.specs.Serving.{IsWorked, Serves}
 
@@ -93,9 +93,6 @@ module _ (words : List (List ℕ)) (request : Request) (e : Some request ≡ req
     may = record { moments = ends.0.moments; outcome = outcome; comes = of_words (λ r. MatchOption r ⊥ (λ q. Happens (course_of q) ends.0.moments (Ends outcome))) ends.0.ended; holds = holds };
   }
 
-  may_load : (name : List ℕ) (moments : ℕ → List File) → Happens (course_of request) moments (Loading name) → MayLoad words name
-  may_load name moments reached = record { moments = moments; reached = of_words (λ r. MatchOption r ⊥ (λ q. Happens (course_of q) moments (Loading name))) reached }
-
 module _ (words : List (List ℕ)) (request : Request) (shelf shelf_after : Shelved) (out out_after : Sunk) (e : Some request ≡ request_of words) where
   comes_so : (P : Outcome → Type 0) → EndsSo (Happens (course_of request)) shelf P → Comes words shelf P
   comes_so P h = comes words request e shelf h.outcome P h.ends h.holds
@@ -109,7 +106,6 @@ module _ (words : List (List ℕ)) (request : Request) (shelf shelf_after : Shel
   came_asked (Err (Refused line)) h = (some_request (request_of words) request e, comes words request e shelf (Refusal (string_bytes line)) (IsRefusal (λ l. string_bytes line ≡ l)) h.0 refl, h.1)
   came_asked (Err (ReadFault line)) h = (
     some_request (request_of words) request e,
-    record { name = h.0.name; may = may_load words request e h.0.name h.0.moments h.0.reached; named = h.0.told },
     of_words words request e (λ r. MatchOption r ⊥ (λ q. FailedOnce (Happens (course_of q)) shelf shelf_after (λ name. string_bytes line ≡ read_line name))) h.0,
     h.1,
     h.2,

@@ -1,6 +1,6 @@
 -- What a call of `run` does, in eight parts. Outcomes are spoken of where the shelf tells its files, and the bytes of out and err
 -- where these tell them.
-use Rattle.std.specs.Prelude.{◌≡◌, ◌≢◌, ◌⊎◌, ℕ, Bool, true, false, List, None, IfSome, MatchOption}
+use Rattle.std.specs.Prelude.{◌≡◌, ◌≢◌, ◌⊎◌, ⊤, ℕ, false, List, None, IfSome, MatchOption}
 use Rattle.xc_base.specs.Shelves.{Shelved, HasRisen, has_risen}
 use Rattle.xc_base.specs.Sinks.{Sunk, AddsWhole, AddsFront, AddsNothing, IsCalm}
 use Rattle.xc_base.specs.declared.shelf.File.{File}
@@ -8,10 +8,10 @@ use Rattle.xc_words.specs.Requests.{request_of}
 use Rattle.xc_lines.specs.Texts.{words_line, read_line, write_line, memory_line}
 use Rattle.xc_lines.specs.declared.status.Status.{Status}
 use Rattle.xc_lines.specs.declared.status.Status.TheVariants.{Done, No, Words, Refused, ReadFault, WriteFault, Memory}
-use Rattle.xc_course.specs.Courses.{Outcome, Absent, Refusal, Served, Loading}
+use Rattle.xc_course.specs.Courses.{Outcome, Absent, Refusal, Served, IsRefusal, IsServed}
 use Rattle.xc_course.specs.Loads.{FailedOnce, KeepsOrFails, TellsSame}
 use Rattle.xc_course.specs.Trees.{Happens}
-use Rattle.xc_course.specs.Works.{IsRefusal, IsServed, GetsAll, GetsPart, GetsPartOrAll}
+use Rattle.xc_course.specs.Items.{GetsAll, GetsPart, GetsPartOrAll}
 use Rattle.xc_top.specs.Requests.{ComesOfWords, IsOutcome, course_of}
 
 -- A call: the words, what is known of the shelf, of out and of err before and after it, and the status.
@@ -68,8 +68,7 @@ pub record AnswersRefusal (call : Call) : Type 0 where
 -- Where the status is Done or No, the outcome is served with it, and out gets a text of each item, one behind the other; no put
 -- failed.
 pub record AnswersService (call : Call) : Type 0 where
-  pub done : call.status ≡ Done → Comes call.words call.shelf (IsServed (λ status items. (status ≡ Done) × GetsAll call.out call.out_after items))
-  pub no : call.status ≡ No → Comes call.words call.shelf (IsServed (λ status items. (status ≡ No) × GetsAll call.out call.out_after items))
+  pub served : (call.status ≡ Done) ⊎ (call.status ≡ No) → Comes call.words call.shelf (IsServed (λ status items. (status ≡ call.status) × GetsAll call.out call.out_after items))
   pub calm : (call.status ≡ Done) ⊎ (call.status ≡ No) → IsCalm call.out call.out_after
 
 -- Where the status is ReadFault, the shelf's count of faults rose, by one failed load that err's line names, and nothing is
@@ -88,8 +87,7 @@ pub record AnswersWriteFault (call : Call) : Type 0 where
 -- of a served outcome out gets such a part or all at most, and else nothing
 abbrev pub GetsAtMost : Sunk → Sunk → Outcome → Type 0
 GetsAtMost out out_after (Served status items) = GetsPartOrAll out out_after items
-GetsAtMost out out_after (Absent name) = AddsNothing out.bytes out_after.bytes
-GetsAtMost out out_after (Refusal line) = AddsNothing out.bytes out_after.bytes
+GetsAtMost out out_after _ = AddsNothing out.bytes out_after.bytes
 
 -- Where memory ran out, out gets of a served outcome such a part or all at most, and nothing where nothing was asked. Over a shelf
 -- that tells no files out gets nothing, or such a part where each load finds some files. No put failed.
@@ -105,37 +103,26 @@ status_of (Absent name) = ReadFault
 status_of (Refusal line) = Refused
 status_of (Served status items) = status
 
--- whether the outcome is that of a load of a name that is not held
-abbrev pub is_absent : Outcome → Bool
-is_absent (Absent name) = true
-is_absent (Refusal line) = false
-is_absent (Served status items) = false
-
 -- No call gives up: while the shelf and out count no fault, it ends as its outcome says, unless memory runs out. A load of a name
 -- that is not held ends it as a read fault, whatever was counted.
 pub record IsComplete (call : Call) : Type 0 where
-  pub steady : has_risen call.shelf.faults call.shelf_after.faults ≡ false → has_risen call.out.faults call.out_after.faults ≡ false → call.status ≢ Memory → ForOutcome call.words call.shelf (λ outcome. is_absent outcome ≡ false → call.status ≡ status_of outcome)
-  pub absent : call.status ≢ Memory → ForOutcome call.words call.shelf (λ outcome. is_absent outcome ≡ true → call.status ≡ ReadFault)
+  pub steady : has_risen call.shelf.faults call.shelf_after.faults ≡ false → has_risen call.out.faults call.out_after.faults ≡ false → call.status ≢ Memory → ForOutcome call.words call.shelf (λ outcome. call.status ≡ status_of outcome)
+  pub absent : call.status ≢ Memory → ForOutcome call.words call.shelf (λ outcome. (name : List ℕ) → outcome ≡ Absent name → call.status ≡ ReadFault)
 
--- where each load finds some files, a load of that name is reached
-pub record MayLoad (words : List (List ℕ)) (name : List ℕ) : Type 0 where
-  pub moments : ℕ → List File
-  pub reached : MatchOption (request_of words) ⊥ (λ request. Happens (course_of request) moments (Loading name))
-
--- nothing is written to err where the request is served, and else the one line of the status
-abbrev pub GetsLineOf : List (List ℕ) → Sunk → Sunk → Status → Type 0
-GetsLineOf words err err_after Done = AddsNothing err.bytes err_after.bytes
-GetsLineOf words err err_after No = AddsNothing err.bytes err_after.bytes
-GetsLineOf words err err_after Words = GetsLine words_line err err_after
-GetsLineOf words err err_after Refused = ForSome words (IsRefusal (λ line. GetsLine line err err_after))
-GetsLineOf words err err_after ReadFault = (name : List ℕ) × MayLoad words name × GetsLine (read_line name) err err_after
-GetsLineOf words err err_after WriteFault = GetsLine write_line err err_after
-GetsLineOf words err err_after Memory = GetsLine memory_line err err_after
+-- Nothing is written to err where the request is served, and else one line by the status. That of a refusal is in `AnswersRefusal`, and
+-- that of a read fault in `AnswersReadFault`.
+abbrev pub GetsLineOf : Sunk → Sunk → Status → Type 0
+GetsLineOf err err_after Words = GetsLine words_line err err_after
+GetsLineOf err err_after WriteFault = GetsLine write_line err err_after
+GetsLineOf err err_after Memory = GetsLine memory_line err err_after
+GetsLineOf err err_after Refused = ⊤
+GetsLineOf err err_after ReadFault = ⊤
+GetsLineOf err err_after _ = AddsNothing err.bytes err_after.bytes
 
 -- Err gets the line of the status and nothing else, and the files stay as they were. The failed names stay too, but for the one name
 -- of a load that is reached, where the status is ReadFault or Memory.
 pub record KeepsTheRest (call : Call) : Type 0 where
-  pub line : GetsLineOf call.words call.err call.err_after call.status
+  pub line : GetsLineOf call.err call.err_after call.status
   pub files : TellsSame call.shelf.told call.shelf_after.told
   pub loads : call.status ≢ ReadFault → call.status ≢ Memory → call.shelf_after.told ≡ call.shelf.told
   pub wants : call.status ≡ Memory → MatchOption (request_of call.words) (call.shelf_after.told ≡ call.shelf.told) (λ request. KeepsOrFails (Happens (course_of request)) call.shelf call.shelf_after)

@@ -11,15 +11,11 @@ use Rattle.xc_lines.specs.declared.halt.Halt.TheVariants.{Words, Refused, ReadFa
 use Rattle.xc_lines.specs.declared.passed.Passed.{Passed}
 use Rattle.xc_course.specs.Loads.{FailedOnce, KeepsOrFails, TellsSame}
 use Rattle.xc_course.specs.Trees.{Happens}
-use Rattle.xc_course.specs.Works.{IsRefusal, IsServed, GetsAll, GetsPart, GetsPartOrAll, LeavesTold}
-use Rattle.xc_top.specs.Calls.{Comes, ForOutcome, ForSome, GetsAtMost, MayLoad}
+use Rattle.xc_course.specs.Works.{LeavesTold}
+use Rattle.xc_course.specs.Items.{GetsAll, GetsPart, GetsPartOrAll}
+use Rattle.xc_course.specs.Courses.{IsRefusal, IsServed}
+use Rattle.xc_top.specs.Calls.{Comes, ForOutcome, ForSome, GetsAtMost}
 use Rattle.xc_top.specs.Requests.{course_of}
-
--- the line is that of a name of which a load may be reached
-pub record NamesLoad (words : List (List ℕ)) (line : List ℕ) : Type 0 where
-  pub name : List ℕ
-  pub may : MayLoad words name
-  pub named : line ≡ read_line name
 
 -- by the result: what the words ask for, their outcome, what a load did, and what out got
 abbrev pub IsWorked : List (List ℕ) → Shelved → Shelved → Sunk → Sunk → Result Passed Halt → Type 0
@@ -27,7 +23,7 @@ IsWorked words shelf shelf_after out out_after (Ok passed) = IsSome (request_of 
 IsWorked words shelf shelf_after out out_after (Err Words) = (request_of words ≡ None) × AddsNothing out.bytes out_after.bytes
 IsWorked words shelf shelf_after out out_after (Err (Refused line)) = IsSome (request_of words) × Comes words shelf (IsRefusal (λ l. string_bytes line ≡ l)) × AddsNothing out.bytes out_after.bytes
 IsWorked words shelf shelf_after out out_after (Err (ReadFault line)) =
-    IsSome (request_of words) × NamesLoad words (string_bytes line) × MatchOption (request_of words) ⊥ (λ request. FailedOnce (Happens (course_of request)) shelf shelf_after (λ name. string_bytes line ≡ read_line name)) × HasRisen shelf.faults shelf_after.faults × AddsNothing out.bytes out_after.bytes
+    IsSome (request_of words) × MatchOption (request_of words) ⊥ (λ request. FailedOnce (Happens (course_of request)) shelf shelf_after (λ name. string_bytes line ≡ read_line name)) × HasRisen shelf.faults shelf_after.faults × AddsNothing out.bytes out_after.bytes
 IsWorked words shelf shelf_after out out_after (Err WriteFault) = IsSome (request_of words) × HasRisen out.faults out_after.faults × Comes words shelf (IsServed (λ status items. GetsPart out out_after items))
 IsWorked words shelf shelf_after out out_after (Err Memory) =
     ForOutcome words shelf (GetsAtMost out out_after) × (request_of words ≡ None → AddsNothing out.bytes out_after.bytes) × MatchOption (request_of words) (shelf_after.told ≡ shelf.told) (λ request. KeepsOrFails (Happens (course_of request)) shelf shelf_after)

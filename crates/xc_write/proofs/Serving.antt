@@ -2,10 +2,10 @@
 use Rattle.std.proofs.Common.{◌≡◌, ℕ, List, [], ◌∷◌, Result, Ok, Err, inl, inr, refl, subst}
 use Rattle.xc_base.specs.Shelves.{Shelved}
 use Rattle.xc_base.specs.Sinks.{Sunk}
-use Rattle.xc_course.specs.Courses.{Served}
-use Rattle.xc_course.specs.Items.{Item, Fixed, IsTextOf}
+use Rattle.xc_course.specs.Courses.{Served, IsServed}
+use Rattle.xc_course.specs.Items.{Item, Fixed, IsTextOf, GetsAll, GetsPart, GetsPartOrAll}
 use Rattle.xc_course.specs.Trees.{Serve, Happens}
-use Rattle.xc_course.specs.Works.{EndsSo, IsServed, GetsAll, GetsPart, GetsPartOrAll, WorksAlways}
+use Rattle.xc_course.specs.Works.{EndsSo, WorksAlways}
 use Rattle.xc_course.proofs.Working.{ends_always, same_told}
 use Rattle.xc_lines.specs.Halts.{passed_status}
 use Rattle.xc_lines.specs.declared.halt.Halt.{Halt}

@@ -11,9 +11,7 @@ abbrev pub CameToItems : List Item → Sunk → Sunk → Result (Unit {0}) Halt 
 CameToItems items old new (Ok x) = Adds (IsReply items) old.bytes new.bytes × IsCalm old new
 CameToItems items old new (Err WriteFault) = HasRisen old.faults new.faults × Adds (IsPart items) old.bytes new.bytes
 CameToItems items old new (Err Memory) = Adds (IsPartOrReply items) old.bytes new.bytes × (new.faults ≡ old.faults)
-CameToItems items old new (Err Words) = ⊥
-CameToItems items old new (Err (Refused line)) = ⊥
-CameToItems items old new (Err (ReadFault line)) = ⊥
+CameToItems _ _ _ _ = ⊥
 
 -- the same as a record, whose arguments a tactic can find
 pub record Writes (items : List Item) (old new : Sunk) (result : Result (Unit {0}) Halt) : Type 0 where
@@ -34,6 +32,4 @@ abbrev pub IsPut : List ℕ → Sunk → Sunk → Result (Unit {0}) Halt → Typ
 IsPut text old new (Ok x) = AddsWhole text old.bytes new.bytes × IsCalm old new
 IsPut text old new (Err WriteFault) = HasRisen old.faults new.faults × AddsPart text old.bytes new.bytes
 IsPut text old new (Err Memory) = AddsPart text old.bytes new.bytes × (new.faults ≡ old.faults)
-IsPut text old new (Err Words) = ⊥
-IsPut text old new (Err (Refused line)) = ⊥
-IsPut text old new (Err (ReadFault line)) = ⊥
+IsPut _ _ _ _ = ⊥

@@ -1,0 +1,4 @@
+pub mod Changes
+pub mod Expectations
+pub mod Sources
+pub mod Tallies
