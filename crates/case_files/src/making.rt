@@ -2,14 +2,14 @@
 
 ghost use Rattle.std.specs.Prelude.{◌<◌, IfOk};
 
-use case_texts::{Case, Each, Ending, Expectation, Expected, Failing, NamedText};
-use case_texts::{changed};
-use case_texts::{CaseFault, KeyFault, NameFault, Why, name_fault};
 use crate::keys::{
     list_at, needed_text, number_at, numbers_at, one_of, only_keys, table_in, texts_at,
 };
-use case_texts::{Sources, example_of, find, out_of};
 use crate::written::change_of;
+use case_texts::{
+    Case, CaseFault, Each, Ending, Expectation, Expected, Failing, KeyFault, NameFault, NamedText,
+    Sources, Why, changed, example_of, find, name_fault, out_of,
+};
 use std::alloc::Global;
 use toml::Table;
 

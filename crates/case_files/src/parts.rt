@@ -1,8 +1,6 @@
-use case_texts::{Case};
-use case_texts::{CaseFault, Fault, Why};
 use crate::keys::{list_at, only_keys, table_in};
 use crate::making::case_of;
-use case_texts::{Sources};
+use case_texts::{Case, CaseFault, Fault, Sources, Why};
 use std::alloc::{AllocError, Global};
 use std::mem;
 use toml::Table;

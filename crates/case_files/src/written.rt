@@ -5,9 +5,8 @@ ghost use Rattle.toml.specs.Data.{as_integer, get_member};
 ghost use Rattle.toml.specs.View.{table_view};
 ghost use Rattle.case_files.specs.Written.{IsWritten};
 
-use case_texts::{Change};
-use case_texts::{KeyFault, NameFault, Why, name_fault};
 use crate::keys::{needed_number, needed_text, number_at, only_keys, text_at};
+use case_texts::{Change, KeyFault, NameFault, Why, name_fault};
 use std::alloc::Global;
 use toml::Table;
 
