@@ -55,7 +55,6 @@ pub trait Expression: Sized + Drop {
 
     /// What such a token makes of them.
     fn pair(alloc: Global, token: &[u8], left: Self, right: Self) -> Result<Self, Memory>
-        requires { grammar.is_pair token.now ≡ true }
         ensures { IfOk result (λ t. tree t ≡ grammar.pair token.now (tree left) (tree right)) };
 
     /// Whether there is one operator more, which groups to the right.
