@@ -1,6 +1,7 @@
 -- One turn of a loop over the parts: a digit of one part, and the rest, which is a code of the parts after it.
 use Rattle.std.proofs.Common.{◌≡◌, ℕ, zero, suc, ◌+◌, ◌*◌, ◌/◌, ◌%◌, ◌<◌, ◌≤◌, Bool, true, ◌&&◌, List, [], ◌∷◌, length, get_or, drop, refl, sym, ap, subst, ◌∙◌, add-one, drop-cons, arith}
 use Rattle.std.proofs.lemmas.Nat.{div_below, mod_below}
+use Rattle.xc_theory.specs.Lattices.{LatticeData}
 use Rattle.xc_alg.specs.Operations.{Operations}
 use Rattle.xc_alg.specs.Products.{product}
 use Rattle.xc_alg.specs.AnyTables.{lattice_in_any}
@@ -9,7 +10,10 @@ use Rattle.xc_alg.proofs.Pairs.{pair}
 use Rattle.xc_alg.proofs.Parts.{single}
 use Rattle.xc_alg.proofs.Products.{product-cons}
 use Rattle.xc_alg.proofs.Tables.{product_size, product_below, product_meet, product_join, product_negation, product_bottom, product_top}
+use Rattle.xc_product.specs.Bounds.{bound_of, bound_of_none}
 use Rattle.xc_product.specs.Parts.{lattices, weight}
+use Rattle.xc_product.specs.declared.bounds.Bound.{Bound}
+use Rattle.xc_product.specs.declared.bounds.Bound.TheVariants.{Meet, Join}
 use Rattle.xc_product.specs.Lawful.{lawful_product}
 
 -- the operations of the parts from a part on
@@ -27,13 +31,10 @@ past [] (suc n) h = refl
 past (t ∷ tables) zero h = absurd (omega arith)
 past (t ∷ tables) (suc n) h = past tables n (omega arith)
 
-none_meet : (a b : ℕ) → (product []).meet a b ≡ 0
+none_bound : (which : Bound) (a b : ℕ) → bound_of which (product []) a b ≡ 0
 unfolding product
-none_meet a b = refl
-
-none_join : (a b : ℕ) → (product []).join a b ≡ 0
-unfolding product
-none_join a b = refl
+none_bound Meet a b = refl
+none_bound Join a b = refl
 
 none_negation : (a : ℕ) → (product []).negation a ≡ 0
 unfolding product
@@ -43,24 +44,18 @@ none_below : (a b : ℕ) → (product []).below a b ≡ true
 unfolding product
 none_below a b = refl
 
-none_bottom : (product []).bottom ≡ 0
+none_of_none : (which : Bound) → bound_of_none which (product []) ≡ 0
 unfolding product
-none_bottom = refl
-
-none_top : (product []).top ≡ 0
-unfolding product
-none_top = refl
+none_of_none Meet = refl
+none_of_none Join = refl
 
 pub none_size : (product []).size ≡ 1
 unfolding product
 none_size = refl
 
 module _ (tables : List AnyTable) (n : ℕ) (h : length tables ≤ n) where
-  pub past_meet : (a b : ℕ) → (from tables n).meet a b ≡ 0
-  past_meet a b = ap (λ (o : Operations). o.meet a b) (past tables n h) ∙ none_meet a b
-
-  pub past_join : (a b : ℕ) → (from tables n).join a b ≡ 0
-  past_join a b = ap (λ (o : Operations). o.join a b) (past tables n h) ∙ none_join a b
+  pub past_bound : (which : Bound) (a b : ℕ) → bound_of which (from tables n) a b ≡ 0
+  past_bound which a b = ap (λ (o : Operations). bound_of which o a b) (past tables n h) ∙ none_bound which a b
 
   pub past_negation : (a : ℕ) → (from tables n).negation a ≡ 0
   past_negation a = ap (λ (o : Operations). o.negation a) (past tables n h) ∙ none_negation a
@@ -68,17 +63,40 @@ module _ (tables : List AnyTable) (n : ℕ) (h : length tables ≤ n) where
   pub past_below : (a b : ℕ) → (from tables n).below a b ≡ true
   past_below a b = ap (λ (o : Operations). o.below a b) (past tables n h) ∙ none_below a b
 
-  pub past_bottom : (from tables n).bottom ≡ 0
-  past_bottom = ap (λ (o : Operations). o.bottom) (past tables n h) ∙ none_bottom
-
-  pub past_top : (from tables n).top ≡ 0
-  past_top = ap (λ (o : Operations). o.top) (past tables n h) ∙ none_top
+  pub past_of_none : (which : Bound) → bound_of_none which (from tables n) ≡ 0
+  past_of_none which = ap (λ (o : Operations). bound_of_none which o) (past tables n h) ∙ none_of_none which
 
   pub past_size : (from tables n).size ≡ 1
   past_size = ap (λ (o : Operations). o.size) (past tables n h) ∙ none_size
 
 pub positive : (tables : List AnyTable) (i : ℕ) → 0 < (from tables i).size
 positive tables i = omega (arith, (lawful_product (drop i tables)).bottom_in_range)
+
+-- a bound of codes is a code
+pub bound_in_range : (which : Bound) (tables : List AnyTable) (a b : ℕ) → a < (product (lattices tables)).size → b < (product (lattices tables)).size → bound_of which (product (lattices tables)) a b < (product (lattices tables)).size
+bound_in_range Meet tables a b = (lawful_product tables).meet_in_range a b
+bound_in_range Join tables a b = (lawful_product tables).join_in_range a b
+
+pub none_in_range : (which : Bound) (tables : List AnyTable) → bound_of_none which (product (lattices tables)) < (product (lattices tables)).size
+none_in_range Meet tables = (lawful_product tables).top_in_range
+none_in_range Join tables = (lawful_product tables).bottom_in_range
+
+-- a bound in one part, and in a part and what follows it
+bound_alone : (which : Bound) (l : LatticeData) (a b : ℕ) → bound_of which (product (l ∷ [])) a b ≡ bound_of which (single l) a b
+bound_alone Meet l a b = product_meet l a b
+bound_alone Join l a b = product_join l a b
+
+none_alone : (which : Bound) (l : LatticeData) → bound_of_none which (product (l ∷ [])) ≡ bound_of_none which (single l)
+none_alone Meet l = product_top l
+none_alone Join l = product_bottom l
+
+bound_in_pair : (which : Bound) (x y : Operations) (a b : ℕ) → bound_of which (pair x y) a b ≡ bound_of which x (a / y.size) (b / y.size) * y.size + bound_of which y (a % y.size) (b % y.size)
+bound_in_pair Meet x y a b = refl
+bound_in_pair Join x y a b = refl
+
+none_in_pair : (which : Bound) (x y : Operations) → bound_of_none which (pair x y) ≡ bound_of_none which x * y.size + bound_of_none which y
+none_in_pair Meet x y = refl
+none_in_pair Join x y = refl
 
 pub next : (tables : List AnyTable) (i : ℕ) (t : AnyTable) → i < length tables → t ≡ get_or tables i t → drop i tables ≡ t ∷ drop (i + 1) tables
 next tables i t within is =
@@ -112,20 +130,15 @@ module _ (tables : List AnyTable) (i : ℕ) (t : AnyTable) (within : i < length 
           rw (er, weighs, ea, fa, product_negation (lattice_in_any t) (a / weight tables i)) (sym (ap (λ (o : Operations). o.negation a) turn))
 
       module _ (b db rb : ℕ) (eb : db ≡ b / weight tables i) (fb : rb ≡ b % weight tables i) where
-        pub meet_turn : (r : ℕ) → r ≡ (alone t).meet da db → r * w + (from tables (i + 1)).meet ra rb ≡ (from tables i).meet a b
-        meet_turn r er =
-            rw (er, weighs, ea, fa, eb, fb, product_meet (lattice_in_any t) (a / weight tables i) (b / weight tables i)) (sym (ap (λ (o : Operations). o.meet a b) turn))
-
-        pub join_turn : (r : ℕ) → r ≡ (alone t).join da db → r * w + (from tables (i + 1)).join ra rb ≡ (from tables i).join a b
-        join_turn r er =
-            rw (er, weighs, ea, fa, eb, fb, product_join (lattice_in_any t) (a / weight tables i) (b / weight tables i)) (sym (ap (λ (o : Operations). o.join a b) turn))
+        pub bound_turn : (which : Bound) (r : ℕ) → r ≡ bound_of which (alone t) da db → r * w + bound_of which (from tables (i + 1)) ra rb ≡ bound_of which (from tables i) a b
+        bound_turn which r er =
+            rw (er, weighs, ea, fa, eb, fb, bound_alone which (lattice_in_any t) (a / weight tables i) (b / weight tables i))
+              (sym (ap (λ (o : Operations). bound_of which o a b) turn ∙ bound_in_pair which (single (lattice_in_any t)) (from tables (i + 1)) a b))
 
         pub below_turn : (r : Bool) → r ≡ (alone t).below da db → (r && (from tables (i + 1)).below ra rb) ≡ (from tables i).below a b
         below_turn r er =
             rw (er, ea, fa, eb, fb, product_below (lattice_in_any t) (a / weight tables i) (b / weight tables i)) (sym (ap (λ (o : Operations). o.below a b) turn))
 
-    pub bottom_turn : (r : ℕ) → r ≡ (alone t).bottom → r * w + (from tables (i + 1)).bottom ≡ (from tables i).bottom
-    bottom_turn r er = rw (er, weighs, product_bottom (lattice_in_any t)) (sym (ap (λ (o : Operations). o.bottom) turn))
-
-    pub top_turn : (r : ℕ) → r ≡ (alone t).top → r * w + (from tables (i + 1)).top ≡ (from tables i).top
-    top_turn r er = rw (er, weighs, product_top (lattice_in_any t)) (sym (ap (λ (o : Operations). o.top) turn))
+    pub turn_of_none : (which : Bound) (r : ℕ) → r ≡ bound_of_none which (alone t) → r * w + bound_of_none which (from tables (i + 1)) ≡ bound_of_none which (from tables i)
+    turn_of_none which r er =
+        rw (er, weighs, none_alone which (lattice_in_any t)) (sym (ap (λ (o : Operations). bound_of_none which o) turn ∙ none_in_pair which (single (lattice_in_any t)) (from tables (i + 1))))

@@ -1,6 +1,7 @@
 ghost use Rattle.std.specs.Prelude.{◌≡◌};
 ghost use Rattle.xc_product.specs.Lawful.{lawful_parts, lawful_product};
 
+use crate::bounds::{Bound, with_digit};
 use crate::product::Product;
 use xc_alg::Algebra;
 
@@ -14,31 +15,11 @@ impl Algebra for Product {
     }
 
     fn meet(&self, a: u16, b: u16) -> u16 {
-        let mut left = a;
-        let mut right = b;
-        let mut met = 0;
-        for part in 0..self.tables.len() {
-            let first = self.split(part, left);
-            let second = self.split(part, right);
-            met += self.tables.get(part).meet(first.digit, second.digit) * self.weights[part];
-            left = first.rest;
-            right = second.rest;
-        }
-        met
+        self.bound_of_codes(Bound::Meet, a, b)
     }
 
     fn join(&self, a: u16, b: u16) -> u16 {
-        let mut left = a;
-        let mut right = b;
-        let mut joined = 0;
-        for part in 0..self.tables.len() {
-            let first = self.split(part, left);
-            let second = self.split(part, right);
-            joined += self.tables.get(part).join(first.digit, second.digit) * self.weights[part];
-            left = first.rest;
-            right = second.rest;
-        }
-        joined
+        self.bound_of_codes(Bound::Join, a, b)
     }
 
     fn neg(&self, a: u16) -> u16 {
@@ -46,7 +27,8 @@ impl Algebra for Product {
         let mut negated = 0;
         for part in 0..self.tables.len() {
             let split = self.split(part, code);
-            negated += self.tables.get(part).neg(split.digit) * self.weights[part];
+            let digit = self.tables.get(part).neg(split.digit);
+            negated = with_digit(negated, digit, self.weights[part]);
             code = split.rest;
         }
         negated

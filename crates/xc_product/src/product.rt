@@ -2,10 +2,11 @@ ghost use Rattle.std.specs.Prelude.{◌≡◌, ◌<◌, ◌≤◌, ◌/◌, ◌%
 ghost use Rattle.xc_theory.specs.Lattices.{bottom};
 ghost use Rattle.xc_theory.specs.Codes.{total, digits, code_of, AreDigits};
 ghost use Rattle.xc_alg.specs.Products.{product, sizes};
+ghost use Rattle.xc_product.specs.Bounds.{bound_of};
 ghost use Rattle.xc_product.specs.Parts.{lattices, rooms, weight, HoldsProduct};
 ghost use Rattle.xc_product.specs.Heights.{AreHeights, HaveHeights, IsSumOfHeights};
 
-use crate::bounds::{bottom_code, top_code};
+use crate::bounds::{Bound, bound_in_part, code_of_none, with_digit};
 use crate::fault::ProductFault;
 use crate::heights::sum_of_heights;
 use crate::weights::{count, weights};
@@ -57,8 +58,8 @@ impl Product {
         let height = sum_of_heights(alloc, tables)?;
         let size = size as u16;
         let weights = weights(tables, size);
-        let bottom = bottom_code(tables, &weights);
-        let top = top_code(tables, &weights);
+        let bottom = code_of_none(tables, &weights, Bound::Join);
+        let top = code_of_none(tables, &weights, Bound::Meet);
         Ok(Product {
             tables: parts,
             weights,
@@ -129,7 +130,7 @@ impl Product {
     {
         let mut code = 0;
         for part in 0..self.tables.len() {
-            code += digits[part] as u16 * self.weights[part];
+            code = with_digit(code, digits[part] as u16, self.weights[part]);
         }
         code
     }
@@ -142,6 +143,27 @@ impl Product {
         self.height
     }
 
+    /// The bound of two codes, digit by digit.
+    pub(crate) fn bound_of_codes(&self, which: Bound, a: u16, b: u16) -> u16
+        requires left { a < (product (parts_of self.now)).size }
+        requires right { b < (product (parts_of self.now)).size }
+        ensures { result ≡ bound_of which (product (parts_of self.now)) a b }
+    {
+        let mut left = a;
+        let mut right = b;
+        let mut code = 0;
+        for part in 0..self.tables.len() {
+            let first = self.split(part, left);
+            let second = self.split(part, right);
+            let digit = bound_in_part(self.tables.get(part), which, first.digit, second.digit);
+            code = with_digit(code, digit, self.weights[part]);
+            left = first.rest;
+            right = second.rest;
+        }
+        code
+    }
+
+    /// The digit of a code in a part, where the code has no digits for the parts before it, and the rest.
     pub(crate) fn split(&self, part: usize, code: u16) -> Split
         requires part { part < length self.now.tables }
         requires code { code < (product (lattices (drop part self.now.tables))).size }

@@ -3,24 +3,15 @@ use Rattle.xc_product.specs.Lawful.{lawful_product}
 use Rattle.xc_product.proofs.Turns.{digit_in, negation_turn, past_negation}
 use Rattle.xc_product.proofs.algebra.ProductAlgebra.neg.Goals as goal
 
-pub neg-requires : goal.neg-requires
-neg-requires c = digit_in c.args.self.now.tables c.loop-part.part c.get.result.now (omega arith) c.get.ensures c.loop-part.code c.split-split.result.digit c.loop-part.invariant.code_in c.split-split.ensures.digit
+pub neg-digit-requires : goal.neg-digit-requires
+neg-digit-requires c = digit_in c.args.self.now.tables c.loop-part.part c.get.result.now (omega arith) c.get.ensures c.loop-part.code c.split-split.result.digit c.loop-part.invariant.code_in c.split-split.ensures.digit
 
-pub overflow_mul-negated : goal.overflow_mul-negated
-overflow_mul-negated c =
+pub with_digit-negated-requires : goal.with_digit-negated-requires
+with_digit-negated-requires c =
     omega (
       arith,
       negation_turn c.args.self.now.tables c.loop-part.part c.get.result.now (omega arith) c.get.ensures (get_or c.args.self.now.weights c.loop-part.part 0) (c.args.self.now.holds.weighted c.loop-part.part (omega arith))
-          c.loop-part.code c.split-split.result.digit c.split-split.result.rest c.split-split.ensures.digit c.split-split.ensures.rest c.neg.result c.neg.ensures,
-      (lawful_product c.args.self.now.tables).negation_in_range c.args.a c.requires,
-    )
-
-pub overflow_add-negated : goal.overflow_add-negated
-overflow_add-negated c =
-    omega (
-      arith,
-      negation_turn c.args.self.now.tables c.loop-part.part c.get.result.now (omega arith) c.get.ensures (get_or c.args.self.now.weights c.loop-part.part 0) (c.args.self.now.holds.weighted c.loop-part.part (omega arith))
-          c.loop-part.code c.split-split.result.digit c.split-split.result.rest c.split-split.ensures.digit c.split-split.ensures.rest c.neg.result c.neg.ensures,
+          c.loop-part.code c.split-split.result.digit c.split-split.result.rest c.split-split.ensures.digit c.split-split.ensures.rest c.neg-digit.result c.neg-digit.ensures,
       (lawful_product c.args.self.now.tables).negation_in_range c.args.a c.requires,
     )
 
@@ -31,7 +22,7 @@ loop-part-preserved c =
       negated = omega (
         arith,
         negation_turn c.args.self.now.tables c.loop-part.part c.get.result.now (omega arith) c.get.ensures (get_or c.args.self.now.weights c.loop-part.part 0) (c.args.self.now.holds.weighted c.loop-part.part (omega arith))
-            c.loop-part.code c.split-split.result.digit c.split-split.result.rest c.split-split.ensures.digit c.split-split.ensures.rest c.neg.result c.neg.ensures,
+            c.loop-part.code c.split-split.result.digit c.split-split.result.rest c.split-split.ensures.digit c.split-split.ensures.rest c.neg-digit.result c.neg-digit.ensures,
       );
     }
 

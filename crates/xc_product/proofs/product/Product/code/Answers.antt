@@ -5,17 +5,8 @@ use Rattle.xc_product.proofs.product.Product.code.Goals as goal
 pub bounds-digits-part : goal.bounds-digits-part
 bounds-digits-part c = omega (arith, digits-length c.args.self.now.tables c.args.digits.now c.requires)
 
-pub overflow_mul-code : goal.overflow_mul-code
-overflow_mul-code c =
-    omega (
-      arith,
-      c.loop-part.invariant,
-      code_turn c.args.self.now.tables c.loop-part.part (get_or c.args.self.now.weights c.loop-part.part 0) c.args.digits.now (omega arith) (c.args.self.now.holds.weighted c.loop-part.part (omega arith)) (omega (arith, digits-length c.args.self.now.tables c.args.digits.now c.requires)),
-      code_within c.args.self.now.tables c.args.digits.now c.requires,
-    )
-
-pub overflow_add-code : goal.overflow_add-code
-overflow_add-code c =
+pub with_digit-code-requires : goal.with_digit-code-requires
+with_digit-code-requires c =
     omega (
       arith,
       c.loop-part.invariant,

@@ -8,18 +8,18 @@ use Rattle.xc_product.proofs.product.Product.of.Goals as goal
 pub weights-weights-requires-clause-count : goal.weights-weights-requires-clause-count
 weights-weights-requires-clause-count c = c.count-size.ensures ∙ sym (total_is (lattices c.as_slice-tables.result.now))
 
-pub bottom_code-bottom-requires-clause-limit : goal.bottom_code-bottom-requires-clause-limit
-bottom_code-bottom-requires-clause-limit c = omega (arith, c.count-size.ensures, total_is (lattices c.as_slice-tables.result.now))
+pub code_of_none-bottom-requires-clause-limit : goal.code_of_none-bottom-requires-clause-limit
+code_of_none-bottom-requires-clause-limit c = omega (arith, c.count-size.ensures, total_is (lattices c.as_slice-tables.result.now))
 
-pub top_code-top-requires-clause-limit : goal.top_code-top-requires-clause-limit
-top_code-top-requires-clause-limit c = omega (arith, c.count-size.ensures, total_is (lattices c.as_slice-tables.result.now))
+pub code_of_none-top-requires-clause-limit : goal.code_of_none-top-requires-clause-limit
+code_of_none-top-requires-clause-limit c = omega (arith, c.count-size.ensures, total_is (lattices c.as_slice-tables.result.now))
 
 pub invariant_of-result : goal.invariant_of-result
 invariant_of-result c =
     record {
       holds =
-          holds_of_found c.args.parts c.as_slice-tables.result.now c.weights-weights.result c.count-size.result c.bottom_code-bottom.result c.top_code-top.result
+          holds_of_found c.args.parts c.as_slice-tables.result.now c.weights-weights.result c.count-size.result c.code_of_none-bottom.result c.code_of_none-top.result
           c.as_slice-tables.ensures c.requires.several c.requires.few c.count-size.ensures (omega arith) c.weights-weights.ensures
-          c.bottom_code-bottom.ensures c.top_code-top.ensures;
+          c.code_of_none-bottom.ensures c.code_of_none-top.ensures;
       summed = ∣ subst (λ (tables : List AnyTable). IsSumOfHeights (lattices tables) c.in_ok-height.height) c.as_slice-tables.ensures c.in_ok-height.ensures ∣₁;
     }
