@@ -1,5 +1,5 @@
 ghost use Rattle.std.specs.Prelude.{◌≡◌, ◌<◌};
-ghost use Rattle.case_texts.specs.Expectations.{status_of};
+ghost use Rattle.cases.specs.Verdicts.{ending_of};
 
 use crate::watched::WatchedShelf;
 use case_texts::{Case, Ending, NamedText, Ran};
