@@ -13,6 +13,7 @@ pub data IsAtom : List (List ℕ) → Written → Type 0 where
   equal : (x w : List ℕ) → is_variable_name x ≡ true → is_value_name w ≡ true → IsAtom (x ∷ codes "=" ∷ w ∷ []) (Equal x w)
   unequal : (x w : List ℕ) → is_variable_name x ≡ true → is_value_name w ≡ true → IsAtom (x ∷ codes "!=" ∷ w ∷ []) (Unequal x w)
 
+-- the token of each operator, and what it makes of two guards
 abbrev pub guard_mark : ℕ → List ℕ
 guard_mark zero = codes "&"
 guard_mark (suc n) = codes "|"
