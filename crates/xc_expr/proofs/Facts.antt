@@ -1,11 +1,12 @@
 -- Guards, actions and variables at small cases whose values are known from outside: a wrong definition does not check here.
 use Rattle.std.proofs.Common.{◌≡◌, ℕ, true, false, List, [], ◌∷◌, ◌++◌, Some, None, codes, refl}
 use Rattle.xc_base.specs.Operators.{chained, chain, chain_up_to}
+use Rattle.xc_grammar.specs.Reading.{level_by, whole_by, basic, whole_at, tree_in}
 use Rattle.xc_forms.specs.declared.domain.Domain.{Domain}
 use Rattle.xc_expr.specs.declared.assign.Assign.TheVariants as assigns
 use Rattle.xc_expr.specs.Written.{IsGuard, action_tokens, Equal, Unequal, True, Not, And, Or, To, Next, Prev, Any}
 use Rattle.xc_expr.specs.Written.IsSpelled.{truth, factor, summand, negated}
-use Rattle.xc_expr.specs.GuardReading.{atom, basic, nested, product, sum}
+use Rattle.xc_expr.specs.GuardReading.{atom}
 use Rattle.xc_expr.specs.ActionReading.{assignment_in, assignments_in}
 use Rattle.xc_expr.specs.Reading.{guard_in, action_in}
 use Rattle.xc_expr.specs.Resolving.{resolved, resolved_action, sets_twice}
@@ -28,20 +29,20 @@ x0 = x ∷ codes "=" ∷ o ∷ []
 
 -- `x=0|x=0&!x!=0`: `&` binds more than `|`, and `!` most
 pub precedence : guard_in (x0 ++ codes "|" ∷ x0 ++ codes "&" ∷ codes "!" ∷ x ∷ codes "!=" ∷ o ∷ []) ≡ Some (Or (Equal x o) (And (Equal x o) (Not (Unequal x o))))
-unfolding guard_in sum product basic nested atom chained chain chain_up_to
+unfolding guard_in tree_in whole_at whole_by level_by basic atom chained chain chain_up_to
 precedence = refl
 
 -- `true|true|true` and `true&true&true` group to the left, and brackets group otherwise
 pub grouped : (guard_in (codes "true" ∷ codes "|" ∷ codes "true" ∷ codes "|" ∷ codes "true" ∷ []) ≡ Some (Or (Or True True) True))
     × (guard_in (codes "true" ∷ codes "&" ∷ codes "true" ∷ codes "&" ∷ codes "true" ∷ []) ≡ Some (And (And True True) True))
     × (guard_in (codes "true" ∷ codes "|" ∷ codes "(" ∷ codes "true" ∷ codes "|" ∷ codes "true" ∷ codes ")" ∷ []) ≡ Some (Or True (Or True True)))
-unfolding guard_in sum product basic nested atom chained chain chain_up_to
+unfolding guard_in tree_in whole_at whole_by level_by basic atom chained chain chain_up_to
 grouped = (refl, refl, refl)
 
 -- what is no guard: nothing, an operator alone, a bracket that is not closed, a value alone, a reserved word as a value
 pub no_guards : (guard_in [] ≡ None) × (guard_in (codes "true" ∷ codes "|" ∷ []) ≡ None) × (guard_in (codes "(" ∷ codes "true" ∷ []) ≡ None) × (guard_in (x ∷ []) ≡ None)
     × (guard_in (x ∷ codes "=" ∷ codes "next" ∷ []) ≡ None) × (guard_in (codes "true" ∷ codes "true" ∷ []) ≡ None)
-unfolding guard_in sum product basic nested atom chained chain chain_up_to
+unfolding guard_in tree_in whole_at whole_by level_by basic atom chained chain chain_up_to
 no_guards = (refl, refl, refl, refl, refl, refl)
 
 -- `!true`, by the grammar itself

@@ -1,11 +1,40 @@
--- How a guard is read from the front of tokens: functions that decide what the relation of its spelling says.
-use Rattle.std.specs.Prelude.{ℕ, zero, suc, if◌then◌else◌, List, [], ◌∷◌, Option, Some, None, option_map, option_and_then, codes}
+-- Guards as a kind of expressions, and how one with no guard in it is read from the front of tokens.
+use Rattle.std.specs.Prelude.{◌≡◌, ℕ, zero, suc, true, false, if◌then◌else◌, List, [], ◌∷◌, Option, Some, None, codes}
 use Rattle.std.specs.Str.{bytes_eq}
-use Rattle.xc_base.specs.Lines.{texts}
-use Rattle.xc_base.specs.Operators.{Front, behind, chained}
-use Rattle.xc_expr.specs.Written.{Written, True, False, Equal, Unequal, Not, And, Or, written}
+use Rattle.xc_base.specs.Operators.{Front}
 use Rattle.xc_forms.specs.VariableNames.{is_variable_name, is_value_name}
-use Rattle.xc_expr.specs.declared.guard_parser.Parsed.{Parsed}
+use Rattle.xc_grammar.specs.Grammars.{Grammar}
+use Rattle.xc_expr.specs.Written.{Written, True, False, Equal, Unequal, Not, And, Or}
+
+-- the tokens are that guard, which has no guard in it
+pub data IsAtom : List (List ℕ) → Written → Type 0 where
+  truth : IsAtom (codes "true" ∷ []) True
+  falsity : IsAtom (codes "false" ∷ []) False
+  equal : (x w : List ℕ) → is_variable_name x ≡ true → is_value_name w ≡ true → IsAtom (x ∷ codes "=" ∷ w ∷ []) (Equal x w)
+  unequal : (x w : List ℕ) → is_variable_name x ≡ true → is_value_name w ≡ true → IsAtom (x ∷ codes "!=" ∷ w ∷ []) (Unequal x w)
+
+-- the token of each operator, and what it makes of two guards
+abbrev pub guard_mark : ℕ → List ℕ
+guard_mark zero = codes "&"
+guard_mark (suc n) = codes "|"
+
+abbrev pub guard_join : ℕ → Written → Written → Written
+guard_join zero g h = And g h
+guard_join (suc n) g h = Or g h
+
+-- `!` before a guard, and `&` and `|` between guards, of which `&` binds more; no pairs, and nothing that groups to the right
+abbrev pub guards : Grammar Written
+guards = record {
+  IsAtom = IsAtom;
+  is_prefix = λ token. bytes_eq token (codes "!");
+  apply = λ token g. Not g;
+  is_pair = λ token. false;
+  pair = λ token g h. g;
+  count = 2;
+  mark = guard_mark;
+  join = guard_join;
+  arrow = false;
+}
 
 -- a variable with what is asked of it, by the tokens behind its name
 abbrev pub comparison : List ℕ → List (List ℕ) → Option (Front Written)
@@ -27,52 +56,3 @@ literal token rest =
 unfoldable pub atom : List (List ℕ) → Option (Front Written)
 atom [] = None
 atom (token ∷ rest) = if is_variable_name token then comparison token rest else literal token rest
-
--- with `!` before it
-abbrev pub negation : Option (Front Written) → Option (Front Written)
-negation front = option_map (λ f. record { tree = Not f.tree; rest = f.rest }) front
-
--- with `)` behind it, which is taken off
-abbrev pub closed : Option (Front Written) → Option (Front Written)
-closed front = option_and_then (λ f. option_map (λ more. record { tree = f.tree; rest = more }) (behind (codes ")") f.rest)) front
-
--- the first of two that is there
-abbrev pub or_else : {X : Type 0} → Option X → Option X → Option X
-or_else None other = other
-or_else (Some x) other = Some x
-
--- parts with `&` between them
-abbrev pub products : (List (List ℕ) → Option (Front Written)) → List (List ℕ) → Option (Front Written)
-products part tokens = chained (codes "&") And part tokens
-
--- products with `|` between them
-abbrev pub sums : (List (List ℕ) → Option (Front Written)) → List (List ℕ) → Option (Front Written)
-sums part tokens = chained (codes "|") Or (products part) tokens
-
--- what comes of the tokens behind `!` and of those behind `(`, where one of them stands in front
-abbrev pub nested_by : (List (List ℕ) → Option (Front Written)) → Option (List (List ℕ)) → Option (List (List ℕ)) → Option (Front Written)
-nested_by inner (Some rest) opened = negation (inner rest)
-nested_by inner None (Some rest) = closed (sums inner rest)
-nested_by inner None None = None
-
--- a guard with no operator outside of brackets, with at most so many `!` and brackets around each other
-unfoldable pub basic : ℕ → List (List ℕ) → Option (Front Written)
-basic zero tokens = atom tokens
-basic (suc d) tokens = or_else (atom tokens) (nested_by (basic d) (behind (codes "!") tokens) (behind (codes "(") tokens))
-
--- the part of it that has `!` or brackets
-unfoldable pub nested : ℕ → List (List ℕ) → Option (Front Written)
-nested zero tokens = None
-nested (suc d) tokens = nested_by (basic d) (behind (codes "!") tokens) (behind (codes "(") tokens)
-
--- basic guards with `&` between them
-unfoldable pub product : ℕ → List (List ℕ) → Option (Front Written)
-product d tokens = products (basic d) tokens
-
--- products with `|` between them, at that depth
-unfoldable pub sum : ℕ → List (List ℕ) → Option (Front Written)
-sum d tokens = sums (basic d) tokens
-
--- what the code has read, and the tokens that are left
-abbrev pub front_of : Parsed → Front Written
-front_of p = record { tree = written p.phrase; rest = texts p.rest.now }

@@ -49,8 +49,8 @@ IsGuard tokens g = IsSpelled Sum depth_limit tokens g
 abbrev pub written : Phrase → Written
 written phrases.True = True
 written phrases.False = False
-written (phrases.Equal x w) = Equal x.now w.now
-written (phrases.Unequal x w) = Unequal x.now w.now
+written (phrases.Equal x w) = Equal x w
+written (phrases.Unequal x w) = Unequal x w
 written (phrases.Not' p g) = Not (written g)
 written (phrases.And' p g q h) = And (written g) (written h)
 written (phrases.Or' p g q h) = Or (written g) (written h)

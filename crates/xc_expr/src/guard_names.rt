@@ -86,8 +86,16 @@ fn resolve(alloc: Global, phrase: &Phrase, vars: &Vars) -> Result<Option<Guard>,
     match phrase {
         Phrase::True => Ok(Some(Guard::True)),
         Phrase::False => Ok(Some(Guard::False)),
-        Phrase::Equal(name, operand) => Ok(equal(vars, name, operand)),
-        Phrase::Unequal(name, operand) => Ok(unequal(vars, name, operand)),
+        Phrase::Equal(name, operand) => Ok(equal(
+            vars,
+            name.as_str().as_bytes(),
+            operand.as_str().as_bytes(),
+        )),
+        Phrase::Unequal(name, operand) => Ok(unequal(
+            vars,
+            name.as_str().as_bytes(),
+            operand.as_str().as_bytes(),
+        )),
         Phrase::Not(inner) => {
             let inner = resolve(alloc, inner, vars)?;
             not(alloc, inner)

@@ -1,204 +1,130 @@
-//! Guards from tokens.
+//! Guards from tokens, as a kind of expressions.
 
-ghost use Rattle.std.specs.Prelude.{◌≡◌, IfOk, codes};
-ghost use Rattle.std.specs.Option.{option_map};
+ghost use Rattle.std.specs.Prelude.{◌≡◌, true, IfOk, option_map};
 ghost use Rattle.xc_base.specs.Lines.{texts};
-ghost use Rattle.xc_expr.specs.Written.{written, And, Or};
+ghost use Rattle.xc_forms.specs.VariableNames.{is_variable_name as is_variable_text};
+ghost use Rattle.xc_grammar.specs.Parsed.{front_of};
+ghost use Rattle.xc_expr.specs.Written.{written};
 ghost use Rattle.xc_expr.specs.Reading.{guard_in};
-ghost use Rattle.xc_expr.specs.GuardReading.{front_of, atom, comparison, literal, negation, closed, basic, nested, product, sum};
+ghost use Rattle.xc_expr.specs.GuardReading.{comparison, literal, atom, guards};
 
 use crate::phrase::Phrase;
 use std::alloc::Global;
-use xc_base::{Lexeme, Memory, behind};
+use xc_base::{Lexeme, Memory, Word};
 use xc_forms::{is_value_name, is_variable_name};
+use xc_grammar::{Expression, Parsed, parse};
 
 /// How many `!` and brackets may stand around each other.
 const DEPTH_LIMIT: usize = 64;
 
-/// A guard in front of tokens, and the tokens behind it.
-#[derive(Debug, Drop)]
-pub(crate) struct Parsed<'t, 'a> {
-    phrase: Phrase<'a>,
-    rest: &'t [Lexeme<'a>],
-}
-
-fn comparison<'t, 'a>(name: &'a [u8], tokens: &'t [Lexeme<'a>]) -> Option<Parsed<'t, 'a>>
-    ensures { option_map front_of result ≡ comparison name.now (texts tokens.now) }
+#[tactic(auto, using(crate::proofs::Atoms::names_are_words))]
+fn comparison<'t, 'a>(
+    alloc: Global,
+    name: &[u8],
+    tokens: &'t [Lexeme<'a>],
+) -> Result<Option<Parsed<'t, 'a, Phrase>>, Memory>
+    requires { is_variable_text name.now ≡ true }
+    ensures { IfOk result (λ p. option_map (front_of written) p ≡ comparison name.now (texts tokens.now)) }
 {
     let [sign, value, rest @ ..] = tokens else {
-        return None;
+        return Ok(None);
     };
     if !is_value_name(value.text) {
-        return None;
+        return Ok(None);
     }
-    let phrase = if sign.text == b"=".as_slice() {
-        Phrase::Equal(name, value.text)
+    if sign.text == b"=".as_slice() {
+        let tree = Phrase::Equal(Word::of(alloc, name)?, Word::of(alloc, value.text)?);
+        Ok(Some(Parsed { tree, rest }))
     } else if sign.text == b"!=".as_slice() {
-        Phrase::Unequal(name, value.text)
+        let tree = Phrase::Unequal(Word::of(alloc, name)?, Word::of(alloc, value.text)?);
+        Ok(Some(Parsed { tree, rest }))
     } else {
-        return None;
-    };
-    Some(Parsed { phrase, rest })
+        Ok(None)
+    }
 }
 
-fn literal<'t, 'a>(token: &[u8], rest: &'t [Lexeme<'a>]) -> Option<Parsed<'t, 'a>>
-    ensures { option_map front_of result ≡ literal token.now (texts rest.now) }
+fn literal<'t, 'a>(token: &[u8], rest: &'t [Lexeme<'a>]) -> Option<Parsed<'t, 'a, Phrase>>
+    ensures { option_map (front_of written) result ≡ literal token.now (texts rest.now) }
 {
-    let phrase = if token == b"true".as_slice() {
+    let tree = if token == b"true".as_slice() {
         Phrase::True
     } else if token == b"false".as_slice() {
         Phrase::False
     } else {
         return None;
     };
-    Some(Parsed { phrase, rest })
+    Some(Parsed { tree, rest })
 }
 
-#[tactic(auto, unfolding(crate::specs::GuardReading::atom))]
-fn atom<'t, 'a>(tokens: &'t [Lexeme<'a>]) -> Option<Parsed<'t, 'a>>
-    ensures { option_map front_of result ≡ atom (texts tokens.now) }
-{
-    let [first, rest @ ..] = tokens else {
-        return None;
-    };
-    if is_variable_name(first.text) {
-        comparison(first.text, rest)
-    } else {
-        literal(first.text, rest)
+impl Expression for Phrase {
+    ghost use Rattle.xc_expr.specs.Written.{Written};
+
+    ghost Tree = { Written };
+
+    ghost tree = { written };
+
+    ghost grammar = { guards };
+
+    ghost atom_in = { atom };
+
+    fn operators() -> usize {
+        2
     }
-}
 
-fn and<'a>(alloc: Global, left: Phrase<'a>, right: Phrase<'a>) -> Result<Phrase<'a>, Memory>
-    ensures { IfOk result (λ phrase. written phrase ≡ And (written left.entry) (written right.entry)) }
-{
-    Ok(Phrase::And(Box::new(alloc, left)?, Box::new(alloc, right)?))
-}
-
-fn or<'a>(alloc: Global, left: Phrase<'a>, right: Phrase<'a>) -> Result<Phrase<'a>, Memory>
-    ensures { IfOk result (λ phrase. written phrase ≡ Or (written left.entry) (written right.entry)) }
-{
-    Ok(Phrase::Or(Box::new(alloc, left)?, Box::new(alloc, right)?))
-}
-
-fn negated<'t, 'a>(
-    alloc: Global,
-    parsed: Option<Parsed<'t, 'a>>,
-) -> Result<Option<Parsed<'t, 'a>>, Memory>
-    ensures { IfOk result (λ p. option_map front_of p ≡ negation (option_map front_of parsed.entry)) }
-{
-    match parsed {
-        Some(p) => Ok(Some(Parsed {
-            phrase: Phrase::Not(Box::new(alloc, p.phrase)?),
-            rest: p.rest,
-        })),
-        None => Ok(None),
+    fn mark(operator: usize) -> &'static [u8] {
+        if operator == 0 { b"&" } else { b"|" }
     }
-}
 
-fn closed<'t, 'a>(parsed: Option<Parsed<'t, 'a>>) -> Option<Parsed<'t, 'a>>
-    ensures { option_map front_of result ≡ closed (option_map front_of parsed.entry) }
-{
-    let p = parsed?;
-    let rest = behind(p.rest, b")")?;
-    Some(Parsed {
-        phrase: p.phrase,
-        rest,
-    })
-}
-
-#[tactic(auto, using(crate::proofs::GuardSteps::nested_steps))]
-#[cycle(parser)]
-fn nested<'t, 'a>(
-    alloc: Global,
-    tokens: &'t [Lexeme<'a>],
-    depth: usize,
-) -> Result<Option<Parsed<'t, 'a>>, Memory>
-    ensures { IfOk result (λ p. option_map front_of p ≡ nested depth (texts tokens.now)) }
-{
-    if depth == 0 {
-        return Ok(None);
+    fn join(alloc: Global, operator: usize, left: Phrase, right: Phrase) -> Result<Phrase, Memory> {
+        let left = Box::new(alloc, left)?;
+        let right = Box::new(alloc, right)?;
+        if operator == 0 {
+            Ok(Phrase::And(left, right))
+        } else {
+            Ok(Phrase::Or(left, right))
+        }
     }
-    if let Some(rest) = behind(tokens, b"!") {
-        let inner = basic(alloc, rest, depth - 1)?;
-        negated(alloc, inner)
-    } else if let Some(rest) = behind(tokens, b"(") {
-        let inner = sum(alloc, rest, depth - 1)?;
-        Ok(closed(inner))
-    } else {
-        Ok(None)
-    }
-}
 
-#[tactic(auto, using(crate::proofs::GuardSteps::basic_is))]
-#[cycle(parser)]
-fn basic<'t, 'a>(
-    alloc: Global,
-    tokens: &'t [Lexeme<'a>],
-    depth: usize,
-) -> Result<Option<Parsed<'t, 'a>>, Memory>
-    ensures { IfOk result (λ p. option_map front_of p ≡ basic depth (texts tokens.now)) }
-{
-    match atom(tokens) {
-        Some(parsed) => Ok(Some(parsed)),
-        None => nested(alloc, tokens, depth),
+    fn is_prefix(token: &[u8]) -> bool {
+        token == b"!".as_slice()
     }
-}
 
-#[tactic(auto, using(crate::proofs::GuardSteps::product_steps))]
-#[cycle(parser)]
-fn product<'t, 'a>(
-    alloc: Global,
-    tokens: &'t [Lexeme<'a>],
-    depth: usize,
-) -> Result<Option<Parsed<'t, 'a>>, Memory>
-    ensures { IfOk result (λ p. option_map front_of p ≡ product depth (texts tokens.now)) }
-{
-    let Some(first) = basic(alloc, tokens, depth)? else {
-        return Ok(None);
-    };
-    let mut phrase = first.phrase;
-    let mut rest = first.rest;
-    while let Some(more) = behind(rest, b"&") {
-        let Some(next) = basic(alloc, more, depth)? else {
+    fn apply(alloc: Global, _token: &[u8], inner: Phrase) -> Result<Phrase, Memory> {
+        Ok(Phrase::Not(Box::new(alloc, inner)?))
+    }
+
+    fn is_pair(_token: &[u8]) -> bool {
+        false
+    }
+
+    fn pair(_alloc: Global, _token: &[u8], left: Phrase, _right: Phrase) -> Result<Phrase, Memory> {
+        Ok(left)
+    }
+
+    fn has_arrow() -> bool {
+        false
+    }
+
+    #[tactic(auto, unfolding(crate::specs::GuardReading::atom))]
+    fn atom<'t, 'a>(
+        alloc: Global,
+        tokens: &'t [Lexeme<'a>],
+    ) -> Result<Option<Parsed<'t, 'a, Phrase>>, Memory> {
+        let [first, rest @ ..] = tokens else {
             return Ok(None);
         };
-        phrase = and(alloc, phrase, next.phrase)?;
-        rest = next.rest;
+        if is_variable_name(first.text) {
+            comparison(alloc, first.text, rest)
+        } else {
+            Ok(literal(first.text, rest))
+        }
     }
-    Ok(Some(Parsed { phrase, rest }))
-}
-
-#[tactic(auto, using(crate::proofs::GuardSteps::sum_steps))]
-#[cycle(parser)]
-fn sum<'t, 'a>(
-    alloc: Global,
-    tokens: &'t [Lexeme<'a>],
-    depth: usize,
-) -> Result<Option<Parsed<'t, 'a>>, Memory>
-    ensures { IfOk result (λ p. option_map front_of p ≡ sum depth (texts tokens.now)) }
-{
-    let Some(first) = product(alloc, tokens, depth)? else {
-        return Ok(None);
-    };
-    let mut phrase = first.phrase;
-    let mut rest = first.rest;
-    while let Some(more) = behind(rest, b"|") {
-        let Some(next) = product(alloc, more, depth)? else {
-            return Ok(None);
-        };
-        phrase = or(alloc, phrase, next.phrase)?;
-        rest = next.rest;
-    }
-    Ok(Some(Parsed { phrase, rest }))
 }
 
 /// The guard that the tokens are, where they are one.
-#[tactic(auto, unfolding(crate::specs::Reading::guard_in))]
-pub fn parse_guard<'a>(alloc: Global, tokens: &[Lexeme<'a>]) -> Result<Option<Phrase<'a>>, Memory>
+#[tactic(auto, using(crate::proofs::Atoms::guards_read), unfolding(crate::specs::Reading::guard_in))]
+pub fn parse_guard(alloc: Global, tokens: &[Lexeme]) -> Result<Option<Phrase>, Memory>
     ensures { IfOk result (λ guard. option_map written guard ≡ guard_in (texts tokens.now)) }
 {
-    match sum(alloc, tokens, DEPTH_LIMIT)? {
-        Some(parsed) if parsed.rest.is_empty() => Ok(Some(parsed.phrase)),
-        _ => Ok(None),
-    }
+    parse::<Phrase>(alloc, tokens, DEPTH_LIMIT)
 }

@@ -1,13 +1,15 @@
+use xc_base::Word;
+
 /// A guard as it is written, with names.
 #[derive(Debug, Drop)]
-pub enum Phrase<'a> {
+pub enum Phrase {
     True,
     False,
     /// `X = W`
-    Equal(&'a [u8], &'a [u8]),
+    Equal(Word, Word),
     /// `X != W`
-    Unequal(&'a [u8], &'a [u8]),
-    Not(Box<Phrase<'a>>),
-    And(Box<Phrase<'a>>, Box<Phrase<'a>>),
-    Or(Box<Phrase<'a>>, Box<Phrase<'a>>),
+    Unequal(Word, Word),
+    Not(Box<Phrase>),
+    And(Box<Phrase>, Box<Phrase>),
+    Or(Box<Phrase>, Box<Phrase>),
 }

@@ -4,7 +4,8 @@ use Rattle.std.specs.Fmt as fmt
 use Rattle.xc_base.specs.Deciding.{line_of, statements_of, file_of, statement_fault}
 use Rattle.xc_base.specs.Text.{lines_of, tokens_from, rows_from, first_fault_from}
 use Rattle.xc_base.specs.Operators.{chained, chain, chain_up_to}
-use Rattle.xc_expr.specs.GuardReading.{atom, basic, nested, product, sum}
+use Rattle.xc_grammar.specs.Reading.{level_by, whole_by, basic, whole_at, tree_in}
+use Rattle.xc_expr.specs.GuardReading.{atom}
 use Rattle.xc_expr.specs.ActionReading.{assignment_in, assignments_in}
 use Rattle.xc_expr.specs.Reading.{guard_in, action_in}
 use Rattle.xc_view_lines.specs.LineReading as view_lines
@@ -16,58 +17,58 @@ use Rattle.xc_gen_laws.proofs.Checks.{all_fit, views_fit, view_fits, view_read}
 use Rattle.xc_gen_laws.proofs.Parts.{head_fits, plan_of, all_from_parts}
 
 head : head_fits 17 ≡ true
-unfolding file_of statements_of line_of statement_fault views.decide view_lines.line view_lines.word_line view_lines.command_parts maps.decide maps.line maps.word_line guard_in sum product basic nested atom action_in assignments_in assignment_in chained chain chain_up_to lines_of tokens_from rows_from first_fault_from view_text map_text has_value fmt.digits
+unfolding file_of statements_of line_of statement_fault views.decide view_lines.line view_lines.word_line view_lines.command_parts maps.decide maps.line maps.word_line guard_in tree_in whole_at whole_by level_by basic atom action_in assignments_in assignment_in chained chain chain_up_to lines_of tokens_from rows_from first_fault_from view_text map_text has_value fmt.digits
 head = refl
 
 left_0 : view_fits (plan_of 17) Left (view_text Left 0 17) (view_read Left 0 17) ≡ true
-unfolding file_of statements_of line_of statement_fault views.decide view_lines.line view_lines.word_line view_lines.command_parts maps.decide maps.line maps.word_line guard_in sum product basic nested atom action_in assignments_in assignment_in chained chain chain_up_to lines_of tokens_from rows_from first_fault_from view_text map_text has_value fmt.digits
+unfolding file_of statements_of line_of statement_fault views.decide view_lines.line view_lines.word_line view_lines.command_parts maps.decide maps.line maps.word_line guard_in tree_in whole_at whole_by level_by basic atom action_in assignments_in assignment_in chained chain chain_up_to lines_of tokens_from rows_from first_fault_from view_text map_text has_value fmt.digits
 left_0 = refl
 
 left_1 : view_fits (plan_of 17) Left (view_text Left 1 17) (view_read Left 1 17) ≡ true
-unfolding file_of statements_of line_of statement_fault views.decide view_lines.line view_lines.word_line view_lines.command_parts maps.decide maps.line maps.word_line guard_in sum product basic nested atom action_in assignments_in assignment_in chained chain chain_up_to lines_of tokens_from rows_from first_fault_from view_text map_text has_value fmt.digits
+unfolding file_of statements_of line_of statement_fault views.decide view_lines.line view_lines.word_line view_lines.command_parts maps.decide maps.line maps.word_line guard_in tree_in whole_at whole_by level_by basic atom action_in assignments_in assignment_in chained chain chain_up_to lines_of tokens_from rows_from first_fault_from view_text map_text has_value fmt.digits
 left_1 = refl
 
 left_2 : view_fits (plan_of 17) Left (view_text Left 2 17) (view_read Left 2 17) ≡ true
-unfolding file_of statements_of line_of statement_fault views.decide view_lines.line view_lines.word_line view_lines.command_parts maps.decide maps.line maps.word_line guard_in sum product basic nested atom action_in assignments_in assignment_in chained chain chain_up_to lines_of tokens_from rows_from first_fault_from view_text map_text has_value fmt.digits
+unfolding file_of statements_of line_of statement_fault views.decide view_lines.line view_lines.word_line view_lines.command_parts maps.decide maps.line maps.word_line guard_in tree_in whole_at whole_by level_by basic atom action_in assignments_in assignment_in chained chain chain_up_to lines_of tokens_from rows_from first_fault_from view_text map_text has_value fmt.digits
 left_2 = refl
 
 left_3 : view_fits (plan_of 17) Left (view_text Left 3 17) (view_read Left 3 17) ≡ true
-unfolding file_of statements_of line_of statement_fault views.decide view_lines.line view_lines.word_line view_lines.command_parts maps.decide maps.line maps.word_line guard_in sum product basic nested atom action_in assignments_in assignment_in chained chain chain_up_to lines_of tokens_from rows_from first_fault_from view_text map_text has_value fmt.digits
+unfolding file_of statements_of line_of statement_fault views.decide view_lines.line view_lines.word_line view_lines.command_parts maps.decide maps.line maps.word_line guard_in tree_in whole_at whole_by level_by basic atom action_in assignments_in assignment_in chained chain chain_up_to lines_of tokens_from rows_from first_fault_from view_text map_text has_value fmt.digits
 left_3 = refl
 
 left_4 : view_fits (plan_of 17) Left (view_text Left 4 17) (view_read Left 4 17) ≡ true
-unfolding file_of statements_of line_of statement_fault views.decide view_lines.line view_lines.word_line view_lines.command_parts maps.decide maps.line maps.word_line guard_in sum product basic nested atom action_in assignments_in assignment_in chained chain chain_up_to lines_of tokens_from rows_from first_fault_from view_text map_text has_value fmt.digits
+unfolding file_of statements_of line_of statement_fault views.decide view_lines.line view_lines.word_line view_lines.command_parts maps.decide maps.line maps.word_line guard_in tree_in whole_at whole_by level_by basic atom action_in assignments_in assignment_in chained chain chain_up_to lines_of tokens_from rows_from first_fault_from view_text map_text has_value fmt.digits
 left_4 = refl
 
 lefts : views_fit (plan_of 17) Left 17 ≡ true
 lefts = rw (left_0, left_1, left_2, left_3, left_4) refl
 
 right_0 : view_fits (plan_of 17) Right (view_text Right 0 17) (view_read Right 0 17) ≡ true
-unfolding file_of statements_of line_of statement_fault views.decide view_lines.line view_lines.word_line view_lines.command_parts maps.decide maps.line maps.word_line guard_in sum product basic nested atom action_in assignments_in assignment_in chained chain chain_up_to lines_of tokens_from rows_from first_fault_from view_text map_text has_value fmt.digits
+unfolding file_of statements_of line_of statement_fault views.decide view_lines.line view_lines.word_line view_lines.command_parts maps.decide maps.line maps.word_line guard_in tree_in whole_at whole_by level_by basic atom action_in assignments_in assignment_in chained chain chain_up_to lines_of tokens_from rows_from first_fault_from view_text map_text has_value fmt.digits
 right_0 = refl
 
 right_1 : view_fits (plan_of 17) Right (view_text Right 1 17) (view_read Right 1 17) ≡ true
-unfolding file_of statements_of line_of statement_fault views.decide view_lines.line view_lines.word_line view_lines.command_parts maps.decide maps.line maps.word_line guard_in sum product basic nested atom action_in assignments_in assignment_in chained chain chain_up_to lines_of tokens_from rows_from first_fault_from view_text map_text has_value fmt.digits
+unfolding file_of statements_of line_of statement_fault views.decide view_lines.line view_lines.word_line view_lines.command_parts maps.decide maps.line maps.word_line guard_in tree_in whole_at whole_by level_by basic atom action_in assignments_in assignment_in chained chain chain_up_to lines_of tokens_from rows_from first_fault_from view_text map_text has_value fmt.digits
 right_1 = refl
 
 right_2 : view_fits (plan_of 17) Right (view_text Right 2 17) (view_read Right 2 17) ≡ true
-unfolding file_of statements_of line_of statement_fault views.decide view_lines.line view_lines.word_line view_lines.command_parts maps.decide maps.line maps.word_line guard_in sum product basic nested atom action_in assignments_in assignment_in chained chain chain_up_to lines_of tokens_from rows_from first_fault_from view_text map_text has_value fmt.digits
+unfolding file_of statements_of line_of statement_fault views.decide view_lines.line view_lines.word_line view_lines.command_parts maps.decide maps.line maps.word_line guard_in tree_in whole_at whole_by level_by basic atom action_in assignments_in assignment_in chained chain chain_up_to lines_of tokens_from rows_from first_fault_from view_text map_text has_value fmt.digits
 right_2 = refl
 
 right_3 : view_fits (plan_of 17) Right (view_text Right 3 17) (view_read Right 3 17) ≡ true
-unfolding file_of statements_of line_of statement_fault views.decide view_lines.line view_lines.word_line view_lines.command_parts maps.decide maps.line maps.word_line guard_in sum product basic nested atom action_in assignments_in assignment_in chained chain chain_up_to lines_of tokens_from rows_from first_fault_from view_text map_text has_value fmt.digits
+unfolding file_of statements_of line_of statement_fault views.decide view_lines.line view_lines.word_line view_lines.command_parts maps.decide maps.line maps.word_line guard_in tree_in whole_at whole_by level_by basic atom action_in assignments_in assignment_in chained chain chain_up_to lines_of tokens_from rows_from first_fault_from view_text map_text has_value fmt.digits
 right_3 = refl
 
 right_4 : view_fits (plan_of 17) Right (view_text Right 4 17) (view_read Right 4 17) ≡ true
-unfolding file_of statements_of line_of statement_fault views.decide view_lines.line view_lines.word_line view_lines.command_parts maps.decide maps.line maps.word_line guard_in sum product basic nested atom action_in assignments_in assignment_in chained chain chain_up_to lines_of tokens_from rows_from first_fault_from view_text map_text has_value fmt.digits
+unfolding file_of statements_of line_of statement_fault views.decide view_lines.line view_lines.word_line view_lines.command_parts maps.decide maps.line maps.word_line guard_in tree_in whole_at whole_by level_by basic atom action_in assignments_in assignment_in chained chain chain_up_to lines_of tokens_from rows_from first_fault_from view_text map_text has_value fmt.digits
 right_4 = refl
 
 right_5 : view_fits (plan_of 17) Right (view_text Right 5 17) (view_read Right 5 17) ≡ true
-unfolding file_of statements_of line_of statement_fault views.decide view_lines.line view_lines.word_line view_lines.command_parts maps.decide maps.line maps.word_line guard_in sum product basic nested atom action_in assignments_in assignment_in chained chain chain_up_to lines_of tokens_from rows_from first_fault_from view_text map_text has_value fmt.digits
+unfolding file_of statements_of line_of statement_fault views.decide view_lines.line view_lines.word_line view_lines.command_parts maps.decide maps.line maps.word_line guard_in tree_in whole_at whole_by level_by basic atom action_in assignments_in assignment_in chained chain chain_up_to lines_of tokens_from rows_from first_fault_from view_text map_text has_value fmt.digits
 right_5 = refl
 
 right_6 : view_fits (plan_of 17) Right (view_text Right 6 17) (view_read Right 6 17) ≡ true
-unfolding file_of statements_of line_of statement_fault views.decide view_lines.line view_lines.word_line view_lines.command_parts maps.decide maps.line maps.word_line guard_in sum product basic nested atom action_in assignments_in assignment_in chained chain chain_up_to lines_of tokens_from rows_from first_fault_from view_text map_text has_value fmt.digits
+unfolding file_of statements_of line_of statement_fault views.decide view_lines.line view_lines.word_line view_lines.command_parts maps.decide maps.line maps.word_line guard_in tree_in whole_at whole_by level_by basic atom action_in assignments_in assignment_in chained chain chain_up_to lines_of tokens_from rows_from first_fault_from view_text map_text has_value fmt.digits
 right_6 = refl
 
 rights : views_fit (plan_of 17) Right 17 ≡ true

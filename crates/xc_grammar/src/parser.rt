@@ -244,6 +244,8 @@ fn whole<'t, 'a, E: Expression>(
 }
 
 /// The tree that the tokens are, where they are one, with at most so many prefixes and brackets around each other.
+///
+/// It fails where there is no memory.
 #[tactic(auto, unfolding(crate::specs::Reading::tree_in))]
 pub fn parse<'a, E: Expression>(
     alloc: Global,

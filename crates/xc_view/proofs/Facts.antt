@@ -7,7 +7,8 @@ use Rattle.xc_base.specs.declared.fault.FileFault.TheVariants.{NoStatement, Repe
 use Rattle.xc_base.specs.declared.fault.Part.TheVariants as parts
 use Rattle.xc_base.specs.declared.fault.Counted.TheVariants as counted
 use Rattle.xc_base.specs.Operators.{chained, chain, chain_up_to}
-use Rattle.xc_expr.specs.GuardReading.{atom, basic, nested, product, sum}
+use Rattle.xc_grammar.specs.Reading.{level_by, whole_by, basic, whole_at, tree_in}
+use Rattle.xc_expr.specs.GuardReading.{atom}
 use Rattle.xc_expr.specs.ActionReading.{assignment_in, assignments_in}
 use Rattle.xc_expr.specs.Reading.{guard_in, action_in}
 use Rattle.xc_expr.specs.Tests as tests
@@ -84,7 +85,7 @@ pub fourth_lines : (file_of view_format decide (with_line (codes "init" ∷ x �
     × (file_of view_format decide (with_line (codes "init" ∷ x ∷ codes "=" ∷ codes "2" ∷ [])) ≡ Err (Unknown 4)) × (file_of view_format decide (with_line (codes "view" ∷ x ∷ [])) ≡ Err (NoStatement 4))
     × (file_of view_format decide (with_line (codes "command" ∷ codes "c" ∷ codes "with" ∷ T ∷ codes "when" ∷ codes "true" ∷ codes "do" ∷ x ∷ codes ":=" ∷ codes "y" ∷ codes ";" ∷ x ∷ codes ":=" ∷ o ∷ [])) ≡ Err (Repeated 4))
     × (file_of view_format decide (with_line (codes "var" ∷ codes "y" ∷ o ∷ [])) ≡ Err (Count 4 counted.Values 1)) × (file_of view_format decide head ≡ Err (Missing parts.Init))
-unfolding file_of statements_of line_of statement_fault decide line word_line command_parts guard_in sum product basic nested atom action_in assignments_in assignment_in chained chain chain_up_to
+unfolding file_of statements_of line_of statement_fault decide line word_line command_parts guard_in tree_in whole_at whole_by level_by basic atom action_in assignments_in assignment_in chained chain chain_up_to
 fourth_lines = (refl, refl, refl, refl, refl, refl, refl)
 
 -- the limits: a 257th line, values from 2 to 16, and states before none of these

@@ -12,9 +12,9 @@ pub enum Statement<'a> {
     /// A variable.
     Var(Domain),
     /// What holds at the initial states.
-    Init(Phrase<'a>),
+    Init(Phrase),
     /// A line of a proposition: its name, its value, and where it holds.
-    Prop(Word, Word, Phrase<'a>),
+    Prop(Word, Word, Phrase),
     /// A command: its name, its value, where it may go, and what it does.
-    Command(Word, Word, Phrase<'a>, List<Setting<'a>>),
+    Command(Word, Word, Phrase, List<Setting<'a>>),
 }
