@@ -34,6 +34,21 @@ module _ {S X : Type 0} (in_it : S → Option X) where
     pub first_in : (d : X) (ss : List S) → q d ≡ true → list_all p ss ≡ true → q (first_of in_it d ss) ≡ true
     first_in d ss k h = first_or d (filter_map in_it ss) k (all_in ss h)
 
+  -- what the first statement says, where it is of the kind
+  pub first_is : (d : X) (s : S) (more : List S) → is_some (in_it s) ≡ true → first_of in_it d (s ∷ more) ≡ first_of in_it d (s ∷ [])
+  first_is d s more h = by_kind (in_it s) h
+    where
+      by_kind : (o : Option X) → is_some o ≡ true → get_or (cons_option o (filter_map in_it more)) 0 d ≡ get_or (cons_option o []) 0 d
+      by_kind None k = cc
+      by_kind (Some x) k = refl
+
+  pub first_holds : (p : S → Bool) (q : X → Bool) (d : X) → ((s : S) (x : X) → in_it s ≡ Some x → p s ≡ true → q x ≡ true) → (s : S) → is_some (in_it s) ≡ true → p s ≡ true → q (first_of in_it d (s ∷ [])) ≡ true
+  first_holds p q d each s h k = by_kind (in_it s) refl h
+    where
+      by_kind : (o : Option X) → in_it s ≡ o → is_some o ≡ true → q (get_or (cons_option o []) 0 d) ≡ true
+      by_kind None e i = cc
+      by_kind (Some x) e i = each s x e k
+
   -- a part of what they say is what another function picks
   pub part_in : {Y : Type 0} (part : X → Y) (other : S → Option Y) → ((s : S) → option_map part (in_it s) ≡ other s) → (ss : List S) → map part (filter_map in_it ss) ≡ filter_map other ss
   part_in part other same [] = refl

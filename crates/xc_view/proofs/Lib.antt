@@ -1,5 +1,5 @@
 pub mod Stated
-pub mod Sizes
+pub mod EachKind
 pub mod Facts
 pub mod Fair
 pub mod Reading
