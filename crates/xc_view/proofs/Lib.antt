@@ -4,6 +4,7 @@ pub mod Facts
 pub mod Fair
 pub mod Reading
 pub mod Deciding
+pub mod Placing
 pub mod Gathering
 pub mod Sound
 pub mod Writing

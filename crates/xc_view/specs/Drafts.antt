@@ -1,6 +1,6 @@
 -- What holds of faultless statements, read one after another.
 -- Words for the steps of the code: public clauses do not rest on them.
-use Rattle.std.specs.Prelude.{◌≡◌, ◌≤◌, ℕ, nat_le, Bool, true, false, ◌&&◌, ◌||◌, not, List, [], ◌∷◌, length, map}
+use Rattle.std.specs.Prelude.{◌≡◌, ◌≤◌, ℕ, nat_le, Bool, true, false, ◌&&◌, ◌||◌, not, List, [], ◌∷◌, length, map, Option, Some, None}
 use Rattle.std.specs.List.{list_all}
 use Rattle.std.specs.Option.{is_some, is_none}
 use Rattle.std.specs.Str.{bytes_eq}
@@ -12,7 +12,7 @@ use Rattle.xc_expr.specs.Written.{Written, has_names, depth_limit}
 use Rattle.xc_forms.specs.FaultlessLines.{AreSized}
 use Rattle.xc_forms.specs.VariableLines.{is_named_var}
 use Rattle.xc_forms.specs.declared.domain.Domain.{Domain}
-use Rattle.xc_view.specs.ViewFiles.{name_in, lattice_in, vars_of, prop_names, command_names, line_limit}
+use Rattle.xc_view.specs.ViewFiles.{name_in, lattice_in, vars_of, is_due, prop_names, command_names, line_limit}
 use Rattle.xc_view_lines.specs.ViewLines.{Statement, View, Lattice, Var, Init, Prop, Command}
 use Rattle.xc_view_lines.specs.Statements.{stated}
 use Rattle.xc_view_lines.specs.declared.statement.Statement as code
@@ -53,6 +53,11 @@ is_known vars _ = true
 abbrev pub is_command_of : List ℕ → Statement → Bool
 is_command_of name (Command other value guard action) = bytes_eq name other
 is_command_of name _ = false
+
+-- whether there is a statement, and it is due
+abbrev pub is_placed : List Statement → Option Statement → Bool
+is_placed before None = false
+is_placed before (Some s) = is_due before s
 
 -- what holds of faultless statements, one after another from the first on
 pub record IsFair (statements : List Statement) : Type 0 where
