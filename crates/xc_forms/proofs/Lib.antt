@@ -4,6 +4,7 @@ pub mod VariableReading
 pub mod Sizes
 pub mod FaultlessLines
 pub mod Restating
+pub mod ByKind
 pub mod PrintedLines
 pub mod Short
 pub mod Facts

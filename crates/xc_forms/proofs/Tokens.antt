@@ -41,7 +41,7 @@ back_texts tokens place =
     ∙ sym (drop-map (λ (x : Lexeme). x.text.now) place tokens)
 
 -- where the first of mapped items passes
-position_or_len-map : {X Y : Type 0} (p : Y → Bool) (f : X → Y) (xs : List X) → position_or_len p (map f xs) ≡ position_or_len (λ (x : X). p (f x)) xs
+pub position_or_len-map : {X Y : Type 0} (p : Y → Bool) (f : X → Y) (xs : List X) → position_or_len p (map f xs) ≡ position_or_len (λ (x : X). p (f x)) xs
 position_or_len-map p f [] = refl
 position_or_len-map p f (x ∷ xs) = ap (λ (n : ℕ). cond (not (p (f x))) (1 + n) 0) (position_or_len-map p f xs)
 

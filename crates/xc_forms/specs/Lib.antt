@@ -4,3 +4,4 @@ pub mod VariableLines
 pub mod VariableReading
 pub mod FaultlessLines
 pub mod PrintedLines
+pub mod ByKind

@@ -13,7 +13,8 @@ use Rattle.xc_expr.specs.ActionReading.{assignment_in, assignments_in}
 use Rattle.xc_expr.specs.Reading.{guard_in, action_in}
 use Rattle.xc_expr.specs.Tests as tests
 use Rattle.xc_expr.specs.declared.assign.Assign.TheVariants as assigns
-use Rattle.xc_view.specs.ViewFiles.{ViewValue, var_excess, missing_part, view_format}
+use Rattle.xc_forms.specs.VariableLines.{var_excess}
+use Rattle.xc_view.specs.ViewFiles.{ViewValue, missing_part, view_format}
 use Rattle.xc_view_lines.specs.ViewLines.{View, Lattice, Var}
 use Rattle.xc_view.specs.Deciding.{decide}
 use Rattle.xc_view_lines.specs.LineReading.{line, word_line, command_parts}
@@ -94,7 +95,7 @@ pub limits : (var_excess [] 1 ≡ Some (record { what = counted.Values; found = 
 limits = (refl, refl, refl, refl, refl)
 
 -- what a file lacks, in its order
-pub lacking : (missing_part [] ≡ Some parts.Head) × (missing_part (View x ∷ []) ≡ Some parts.Lattice) × (missing_part (View x ∷ Lattice x ∷ []) ≡ Some parts.Var) × (missing_part (View x ∷ Lattice x ∷ Var x (o ∷ i ∷ []) ∷ []) ≡ Some parts.Init)
+pub lacking : (missing_part [] ≡ Some parts.Head) × (missing_part (View x ∷ []) ≡ Some parts.Lattice) × (missing_part (View x ∷ Lattice x ∷ []) ≡ Some parts.Var) × (missing_part (View x ∷ Lattice x ∷ Var (record { name = x; values = o ∷ i ∷ [] }) ∷ []) ≡ Some parts.Init)
 lacking = (refl, refl, refl, refl)
 
 -- the lines of Bob's canonical text, and those of a view with two variables, two lines of a proposition and no command

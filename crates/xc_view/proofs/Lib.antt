@@ -1,9 +1,10 @@
 pub mod Stated
-pub mod Sizes
+pub mod EachKind
 pub mod Facts
 pub mod Fair
 pub mod Reading
 pub mod Deciding
+pub mod Placing
 pub mod Gathering
 pub mod Sound
 pub mod Writing

@@ -1,6 +1,6 @@
 -- No canonical line of a view that was read is longer than the line that was read.
 use Rattle.std.proofs.Common.{◌≡◌, ℕ, ◌≤◌, Bool, true, false, ◌&&◌, ◌||◌, not, List, [], ◌∷◌, ◌++◌, length, map, append-nil, append_assoc, Option, Some, None, codes, refl, ap, sym, ◌∙◌, subst, arith}
-use Rattle.std.specs.List.{list_all}
+use Rattle.std.specs.List.{list_all, filter_map}
 use Rattle.std.specs.Option.{is_none}
 use Rattle.std.proofs.lemmas.Bool.{and_parts, and_from, or_parts, not-true, le-leb, leb-true}
 use Rattle.std.proofs.lemmas.List.Folds.{list_all-append, list_all-map}
@@ -14,13 +14,16 @@ use Rattle.xc_expr.specs.Resolving.{resolved, resolved_action, sets_twice}
 use Rattle.xc_expr.specs.Tests as tests
 use Rattle.xc_expr.specs.Written.{Written, Assigned, IsGuard, IsAction, action_tokens}
 use Rattle.xc_expr.specs.declared.assign.Assign.{Assign}
+use Rattle.xc_forms.specs.ByKind.{first_of}
 use Rattle.xc_forms.specs.declared.domain.Domain.{Domain}
+use Rattle.xc_forms.proofs.ByKind.{all_in, first_in}
+use Rattle.xc_view.proofs.EachKind.{name_case, lattice_case, var_case, init_case, prop_case, command_case}
 use Rattle.xc_expr_text.proofs.ActionsAgain.{actions_keep_their_tokens}
 use Rattle.xc_expr_text.proofs.GuardsAgain.{no_print_is_longer}
 use Rattle.xc_view.specs.Cut.{AreCut}
 use Rattle.xc_view.specs.Drafts.{is_named, is_known, IsFair}
-use Rattle.xc_view.specs.Printing.{spelling, var_statement, prop_statement, command_statement, statements_in, view_lines}
-use Rattle.xc_view.specs.ViewFiles.{ViewValue, vars_of, test_in, assigns_in, first_name, first_lattice, first_init, props_of, commands_of, view_of, view_format}
+use Rattle.xc_view.specs.Printing.{spelling, prop_statement, command_statement, statements_in, view_lines}
+use Rattle.xc_view.specs.ViewFiles.{ViewValue, name_in, lattice_in, var_in, vars_of, init_in, prop_in, command_in, test_in, assigns_in, view_of, view_format}
 use Rattle.xc_view_lines.specs.ViewLines.{Statement, View, Lattice, Var, Init, Prop, Command, IsStated}
 use Rattle.xc_view_lines.specs.ViewLines.IsStated.{view, lattice, var, init, prop, command}
 use Rattle.xc_view.proofs.Fair.{next_is_fair, none_is_fair}
@@ -33,7 +36,7 @@ size ts = length (spaced ts)
 abbrev printed : List Domain → Statement → Statement
 printed vars (View name) = View name
 printed vars (Lattice file) = Lattice file
-printed vars (Var name values) = Var name values
+printed vars (Var domain) = Var domain
 printed vars (Init guard) = Init (named_guard vars (test_in vars guard))
 printed vars (Prop name value guard) = Prop name value (named_guard vars (test_in vars guard))
 printed vars (Command name value guard action) = Command name value (named_guard vars (test_in vars guard)) (named_action vars (assigns_in vars action))
@@ -63,7 +66,7 @@ module _ (vars : List Domain) where
   no_longer : (tokens : List (List ℕ)) (s : Statement) → IsStated tokens s → is_named s ≡ true → is_known vars s ≡ true → size (spelling (printed vars s)) ≤ size tokens
   no_longer _ _ (view name h) n k = omega arith
   no_longer _ _ (lattice file h) n k = omega arith
-  no_longer _ _ (var name value values h v) n k = omega arith
+  no_longer _ _ (var domain h) n k = omega arith
   no_longer _ _ (init tokens guard g) n k = at_end (codes "init" ∷ []) tokens (guard_tokens (named_guard vars (test_in vars guard))) (guard_shorter tokens guard g (not-true (is_none (resolved vars guard)) k))
   no_longer _ _ (prop name value tokens guard w v g) n k =
       at_end (codes "prop" ∷ name ∷ value ∷ codes "when" ∷ []) tokens (guard_tokens (named_guard vars (test_in vars guard))) (guard_shorter tokens guard g (not-true (is_none (resolved vars guard)) k))
@@ -96,68 +99,32 @@ module _ (vars : List Domain) where
   is_line_short s = is_short (spelling s)
 
   -- and the statements of the view that they say
-  name_short : (ss : List Statement) → list_all is_print_short ss ≡ true → is_line_short (View (first_name ss)) ≡ true
+  name_short : (ss : List Statement) → list_all is_print_short ss ≡ true → is_line_short (View (first_of name_in [] ss)) ≡ true
   unfolding spaced
-  name_short [] h = refl
-  name_short (View name ∷ ss) h = (and_parts (is_line_short (View name)) (list_all is_print_short ss) h).0
-  name_short (Lattice file ∷ ss) h = name_short ss (and_parts (is_print_short (Lattice file)) (list_all is_print_short ss) h).1
-  name_short (Var name values ∷ ss) h = name_short ss (and_parts (is_print_short (Var name values)) (list_all is_print_short ss) h).1
-  name_short (Init guard ∷ ss) h = name_short ss (and_parts (is_print_short (Init guard)) (list_all is_print_short ss) h).1
-  name_short (Prop name value guard ∷ ss) h = name_short ss (and_parts (is_print_short (Prop name value guard)) (list_all is_print_short ss) h).1
-  name_short (Command name value guard action ∷ ss) h = name_short ss (and_parts (is_print_short (Command name value guard action)) (list_all is_print_short ss) h).1
+  name_short ss h = first_in name_in is_print_short (λ x. is_line_short (View x)) (name_case (λ s x. is_print_short s ≡ true → is_line_short (View x) ≡ true) (λ x k. k)) [] ss refl h
 
-  lattice_short : (ss : List Statement) → list_all is_print_short ss ≡ true → is_line_short (Lattice (first_lattice ss)) ≡ true
+  lattice_short : (ss : List Statement) → list_all is_print_short ss ≡ true → is_line_short (Lattice (first_of lattice_in [] ss)) ≡ true
   unfolding spaced
-  lattice_short [] h = refl
-  lattice_short (View name ∷ ss) h = lattice_short ss (and_parts (is_print_short (View name)) (list_all is_print_short ss) h).1
-  lattice_short (Lattice file ∷ ss) h = (and_parts (is_line_short (Lattice file)) (list_all is_print_short ss) h).0
-  lattice_short (Var name values ∷ ss) h = lattice_short ss (and_parts (is_print_short (Var name values)) (list_all is_print_short ss) h).1
-  lattice_short (Init guard ∷ ss) h = lattice_short ss (and_parts (is_print_short (Init guard)) (list_all is_print_short ss) h).1
-  lattice_short (Prop name value guard ∷ ss) h = lattice_short ss (and_parts (is_print_short (Prop name value guard)) (list_all is_print_short ss) h).1
-  lattice_short (Command name value guard action ∷ ss) h = lattice_short ss (and_parts (is_print_short (Command name value guard action)) (list_all is_print_short ss) h).1
+  lattice_short ss h = first_in lattice_in is_print_short (λ x. is_line_short (Lattice x)) (lattice_case (λ s x. is_print_short s ≡ true → is_line_short (Lattice x) ≡ true) (λ x k. k)) [] ss refl h
 
-  init_short : (ss : List Statement) → list_all is_print_short ss ≡ true → is_line_short (Init (named_guard vars (first_init vars ss))) ≡ true
+  init_short : (ss : List Statement) → list_all is_print_short ss ≡ true → is_line_short (Init (named_guard vars (first_of (init_in vars) tests.False ss))) ≡ true
   unfolding spaced
-  init_short [] h = refl
-  init_short (View name ∷ ss) h = init_short ss (and_parts (is_print_short (View name)) (list_all is_print_short ss) h).1
-  init_short (Lattice file ∷ ss) h = init_short ss (and_parts (is_print_short (Lattice file)) (list_all is_print_short ss) h).1
-  init_short (Var name values ∷ ss) h = init_short ss (and_parts (is_print_short (Var name values)) (list_all is_print_short ss) h).1
-  init_short (Init guard ∷ ss) h = (and_parts (is_print_short (Init guard)) (list_all is_print_short ss) h).0
-  init_short (Prop name value guard ∷ ss) h = init_short ss (and_parts (is_print_short (Prop name value guard)) (list_all is_print_short ss) h).1
-  init_short (Command name value guard action ∷ ss) h = init_short ss (and_parts (is_print_short (Command name value guard action)) (list_all is_print_short ss) h).1
+  init_short ss h =
+      first_in (init_in vars) is_print_short (λ t. is_line_short (Init (named_guard vars t))) (init_case vars (λ s t. is_print_short s ≡ true → is_line_short (Init (named_guard vars t)) ≡ true) (λ guard k. k)) tests.False ss refl h
 
-  vars_short : (ss : List Statement) → list_all is_print_short ss ≡ true → list_all is_line_short (map var_statement (vars_of ss)) ≡ true
-  vars_short [] h = refl
-  vars_short (View name ∷ ss) h = vars_short ss (and_parts (is_print_short (View name)) (list_all is_print_short ss) h).1
-  vars_short (Lattice file ∷ ss) h = vars_short ss (and_parts (is_print_short (Lattice file)) (list_all is_print_short ss) h).1
-  vars_short (Var name values ∷ ss) h =
-      let parts = and_parts (is_print_short (Var name values)) (list_all is_print_short ss) h in
-      and_from (is_line_short (Var name values)) (list_all is_line_short (map var_statement (vars_of ss))) parts.0 (vars_short ss parts.1)
-  vars_short (Init guard ∷ ss) h = vars_short ss (and_parts (is_print_short (Init guard)) (list_all is_print_short ss) h).1
-  vars_short (Prop name value guard ∷ ss) h = vars_short ss (and_parts (is_print_short (Prop name value guard)) (list_all is_print_short ss) h).1
-  vars_short (Command name value guard action ∷ ss) h = vars_short ss (and_parts (is_print_short (Command name value guard action)) (list_all is_print_short ss) h).1
+  -- what is said by statements of one kind
+  module _ {X : Type 0} (in_it : Statement → Option X) (say : X → Statement) (each : (s : Statement) (x : X) → in_it s ≡ Some x → is_print_short s ≡ true → is_line_short (say x) ≡ true) where
+    kind_short : (ss : List Statement) → list_all is_print_short ss ≡ true → list_all is_line_short (map say (filter_map in_it ss)) ≡ true
+    kind_short ss h = list_all-map is_line_short say (filter_map in_it ss) ∙ all_in in_it is_print_short (λ x. is_line_short (say x)) each ss h
 
-  props_short : (ss : List Statement) → list_all is_print_short ss ≡ true → list_all is_line_short (map (prop_statement vars) (props_of vars ss)) ≡ true
-  props_short [] h = refl
-  props_short (View name ∷ ss) h = props_short ss (and_parts (is_print_short (View name)) (list_all is_print_short ss) h).1
-  props_short (Lattice file ∷ ss) h = props_short ss (and_parts (is_print_short (Lattice file)) (list_all is_print_short ss) h).1
-  props_short (Var name values ∷ ss) h = props_short ss (and_parts (is_print_short (Var name values)) (list_all is_print_short ss) h).1
-  props_short (Init guard ∷ ss) h = props_short ss (and_parts (is_print_short (Init guard)) (list_all is_print_short ss) h).1
-  props_short (Prop name value guard ∷ ss) h =
-      let parts = and_parts (is_print_short (Prop name value guard)) (list_all is_print_short ss) h in
-      and_from (is_print_short (Prop name value guard)) (list_all is_line_short (map (prop_statement vars) (props_of vars ss))) parts.0 (props_short ss parts.1)
-  props_short (Command name value guard action ∷ ss) h = props_short ss (and_parts (is_print_short (Command name value guard action)) (list_all is_print_short ss) h).1
+  vars_short : (ss : List Statement) → list_all is_print_short ss ≡ true → list_all is_line_short (map Var (vars_of ss)) ≡ true
+  vars_short = kind_short var_in Var (var_case (λ s d. is_print_short s ≡ true → is_line_short (Var d) ≡ true) (λ d k. k))
 
-  commands_short : (ss : List Statement) → list_all is_print_short ss ≡ true → list_all is_line_short (map (command_statement vars) (commands_of vars ss)) ≡ true
-  commands_short [] h = refl
-  commands_short (View name ∷ ss) h = commands_short ss (and_parts (is_print_short (View name)) (list_all is_print_short ss) h).1
-  commands_short (Lattice file ∷ ss) h = commands_short ss (and_parts (is_print_short (Lattice file)) (list_all is_print_short ss) h).1
-  commands_short (Var name values ∷ ss) h = commands_short ss (and_parts (is_print_short (Var name values)) (list_all is_print_short ss) h).1
-  commands_short (Init guard ∷ ss) h = commands_short ss (and_parts (is_print_short (Init guard)) (list_all is_print_short ss) h).1
-  commands_short (Prop name value guard ∷ ss) h = commands_short ss (and_parts (is_print_short (Prop name value guard)) (list_all is_print_short ss) h).1
-  commands_short (Command name value guard action ∷ ss) h =
-      let parts = and_parts (is_print_short (Command name value guard action)) (list_all is_print_short ss) h in
-      and_from (is_print_short (Command name value guard action)) (list_all is_line_short (map (command_statement vars) (commands_of vars ss))) parts.0 (commands_short ss parts.1)
+  props_short : (ss : List Statement) → list_all is_print_short ss ≡ true → list_all is_line_short (map (prop_statement vars) (filter_map (prop_in vars) ss)) ≡ true
+  props_short = kind_short (prop_in vars) (prop_statement vars) (prop_case vars (λ s l. is_print_short s ≡ true → is_line_short (prop_statement vars l) ≡ true) (λ name value guard k. k))
+
+  commands_short : (ss : List Statement) → list_all is_print_short ss ≡ true → list_all is_line_short (map (command_statement vars) (filter_map (command_in vars) ss)) ≡ true
+  commands_short = kind_short (command_in vars) (command_statement vars) (command_case vars (λ s c. is_print_short s ≡ true → is_line_short (command_statement vars c) ≡ true) (λ name value guard action k. k))
 
   join_short : (xs ys : List Statement) → list_all is_line_short xs ≡ true → list_all is_line_short ys ≡ true → list_all is_line_short (xs ++ ys) ≡ true
   join_short xs ys h k = list_all-append is_line_short xs ys ∙ and_from (list_all is_line_short xs) (list_all is_line_short ys) h k
@@ -172,11 +139,11 @@ all_fair _ _ _ (next before row rows s more f rest) h =
 lines_short : (ss : List Statement) → list_all (is_print_short (vars_of ss)) ss ≡ true → list_all is_short (view_lines (view_of ss)) ≡ true
 lines_short ss h =
     let vars : List Domain = vars_of ss in
-    let late : List Statement = map (prop_statement vars) (props_of vars ss) ++ map (command_statement vars) (commands_of vars ss) in
+    let late : List Statement = map (prop_statement vars) (filter_map (prop_in vars) ss) ++ map (command_statement vars) (filter_map (command_in vars) ss) in
     list_all-map is_short spelling (statements_in (view_of ss))
     ∙ and_from _ _ (name_short vars ss h) (and_from _ _ (lattice_short vars ss h)
-    (join_short vars (map var_statement vars) (Init (named_guard vars (first_init vars ss)) ∷ late) (vars_short vars ss h)
-    (and_from _ _ (init_short vars ss h) (join_short vars (map (prop_statement vars) (props_of vars ss)) (map (command_statement vars) (commands_of vars ss)) (props_short vars ss h) (commands_short vars ss h)))))
+    (join_short vars (map Var vars) (Init (named_guard vars (first_of (init_in vars) tests.False ss)) ∷ late) (vars_short vars ss h)
+    (and_from _ _ (init_short vars ss h) (join_short vars (map (prop_statement vars) (filter_map (prop_in vars) ss)) (map (command_statement vars) (filter_map (command_in vars) ss)) (props_short vars ss h) (commands_short vars ss h)))))
 
 -- no line of a view that was read from a text is too long
 pub read_views_are_short : (text : List ℕ) (rows : List Row) (v : ViewValue) → IsAccepted view_format rows v → AreCut text rows → list_all is_short (view_lines v) ≡ true

@@ -1,6 +1,8 @@
 -- What fair statements of a whole file say is sound.
-use Rattle.std.proofs.Common.{◌≡◌, ℕ, ◌<◌, ◌≤◌, Bool, true, false, ◌&&◌, not, if◌then◌else◌, nat_lt, List, [], ◌∷◌, map, length, Option, Some, None, unwrap_or, refl, ◌∙◌, ap, arith}
-use Rattle.std.specs.List.{list_all, list_any}
+use Rattle.std.proofs.Common.{◌≡◌, ℕ, ◌<◌, ◌≤◌, Bool, true, false, ◌&&◌, not, if◌then◌else◌, nat_lt, List, [], ◌∷◌, map, length, Option, Some, None, unwrap_or, refl, sym, ◌∙◌, ap, subst, arith}
+use Rattle.std.specs.List.{list_all, list_any, filter_map}
+use Rattle.std.specs.Option.{is_some, option_map}
+use Rattle.std.proofs.lemmas.List.{length-map}
 use Rattle.std.proofs.lemmas.Bool.{and_parts, and_from, not-true, not_from_false, ltb-true, le-leb}
 use Rattle.xc_base.specs.Names.{has_twice}
 use Rattle.xc_base.specs.Words.{is_name, is_file_word}
@@ -11,15 +13,19 @@ use Rattle.xc_expr.specs.Tests as tests
 use Rattle.xc_expr.specs.Tests.{is_in_range}
 use Rattle.xc_expr.specs.Actions.{is_action_in_range}
 use Rattle.xc_expr.specs.Written.{Written, Assigned}
-use Rattle.xc_forms.specs.VariableNames.{is_variable_name, is_value_name}
+use Rattle.xc_forms.specs.ByKind.{first_of}
+use Rattle.xc_forms.specs.VariableLines.{is_named_var}
+use Rattle.xc_forms.proofs.ByKind.{all_in, first_in, first_is, first_holds, part_in}
+use Rattle.xc_forms.proofs.Sizes.{fit_from_sized}
 use Rattle.xc_expr.specs.Resolving.{resolved, resolved_action, sets_twice}
 use Rattle.xc_forms.specs.declared.domain.Domain.{Domain}
 use Rattle.xc_expr.specs.declared.assign.Assign.{Assign}
-use Rattle.xc_view.specs.ViewFiles.{CommandValue, ViewValue, vars_of, is_view, is_lattice, is_init, is_prop, is_command, count_of, line_limit, missing_part, test_in, assigns_in, first_name, first_lattice, first_init, props_of, commands_of, view_of}
+use Rattle.xc_view.specs.ViewFiles.{PropValue, CommandValue, ViewValue, name_in, lattice_in, var_in, vars_of, is_init, init_in, prop_in, command_in, prop_name, prop_names, command_name, command_names, line_limit, missing_part, test_in, assigns_in, view_of}
 use Rattle.xc_view_lines.specs.ViewLines.{Statement, View, Lattice, Var, Init, Prop, Command}
-use Rattle.xc_view.specs.Parts.{is_prop_in, is_command_in, is_named_var, is_sound}
-use Rattle.xc_view.specs.Drafts.{begins, is_named, command_names, IsFair}
-use Rattle.xc_view.proofs.Sizes.{fit_from_sized}
+use Rattle.xc_view.specs.Parts.{is_prop_in, is_command_in, is_sound}
+use Rattle.xc_view.specs.Drafts.{begins, is_named, IsFair}
+use Rattle.xc_view.proofs.EachKind.{name_case, lattice_case, var_case, init_case, prop_case, command_case, command_of}
+use Rattle.xc_view.proofs.Gathering.{lattice_is}
 use Rattle.xc_view_lines.proofs.Expressions.{guards_in_range, actions_in_range}
 
 -- an option with a value is not empty
@@ -43,83 +49,55 @@ assigns_in_range vars action fit once = by_action (resolved_action vars action) 
     by_action (Some assigns) e = actions_in_range vars action assigns fit once e
 
 -- the guard of the initial states is in range
-init_in_range : (vars : List Domain) (ss : List Statement) → are_fit vars ≡ true → is_in_range vars (first_init vars ss) ≡ true
-init_in_range vars [] fit = refl
-init_in_range vars (View name ∷ ss) fit = init_in_range vars ss fit
-init_in_range vars (Lattice file ∷ ss) fit = init_in_range vars ss fit
-init_in_range vars (Var name values ∷ ss) fit = init_in_range vars ss fit
-init_in_range vars (Init guard ∷ ss) fit = test_in_range vars guard fit
-init_in_range vars (Prop name value guard ∷ ss) fit = init_in_range vars ss fit
-init_in_range vars (Command name value guard action ∷ ss) fit = init_in_range vars ss fit
+init_in_range : (vars : List Domain) (ss : List Statement) → are_fit vars ≡ true → list_all is_named ss ≡ true → is_in_range vars (first_of (init_in vars) tests.False ss) ≡ true
+init_in_range vars ss fit h =
+    first_in (init_in vars) is_named (is_in_range vars) (init_case vars (λ s t. is_named s ≡ true → is_in_range vars t ≡ true) (λ guard n. test_in_range vars guard fit)) tests.False ss refl h
 
 -- and so are the lines of propositions, and the commands
 module _ (v : ViewValue) (fit : are_fit v.vars ≡ true) where
-  props_in : (ss : List Statement) → list_all is_named ss ≡ true → list_all (is_prop_in v) (props_of v.vars ss) ≡ true
-  props_in [] h = refl
-  props_in (View name ∷ ss) h = props_in ss (and_parts _ _ h).1
-  props_in (Lattice file ∷ ss) h = props_in ss (and_parts _ _ h).1
-  props_in (Var name values ∷ ss) h = props_in ss (and_parts _ _ h).1
-  props_in (Init guard ∷ ss) h = props_in ss h
-  props_in (Prop name value guard ∷ ss) h =
-      let parts = and_parts (is_name name && is_name value) (list_all is_named ss) h in
-      and_from _ _ (and_from _ _ parts.0 (test_in_range v.vars guard fit)) (props_in ss parts.1)
-  props_in (Command name value guard action ∷ ss) h = props_in ss (and_parts _ _ h).1
+  props_in : (ss : List Statement) → list_all is_named ss ≡ true → list_all (is_prop_in v) (filter_map (prop_in v.vars) ss) ≡ true
+  props_in =
+      all_in (prop_in v.vars) is_named (is_prop_in v)
+      (prop_case v.vars (λ s l. is_named s ≡ true → is_prop_in v l ≡ true) (λ name value guard n. and_from (is_name name && is_name value) (is_in_range v.vars (test_in v.vars guard)) n (test_in_range v.vars guard fit)))
 
-  commands_in : (ss : List Statement) → list_all is_named ss ≡ true → list_all (is_command_in v) (commands_of v.vars ss) ≡ true
-  commands_in [] h = refl
-  commands_in (View name ∷ ss) h = commands_in ss (and_parts _ _ h).1
-  commands_in (Lattice file ∷ ss) h = commands_in ss (and_parts _ _ h).1
-  commands_in (Var name values ∷ ss) h = commands_in ss (and_parts _ _ h).1
-  commands_in (Init guard ∷ ss) h = commands_in ss h
-  commands_in (Prop name value guard ∷ ss) h = commands_in ss (and_parts _ _ h).1
-  commands_in (Command name value guard action ∷ ss) h =
-      let parts = and_parts (is_name name && is_name value && not (sets_twice action)) (list_all is_named ss) h in
-      let words = and_parts (is_name name && is_name value) (not (sets_twice action)) parts.0 in
-      and_from _ _
-      (and_from _ _ (and_from _ _ words.0 (test_in_range v.vars guard fit)) (assigns_in_range v.vars action fit (not-true (sets_twice action) words.1)))
-      (commands_in ss parts.1)
+  command_is : (name value : List ℕ) (guard : Written) (action : List Assigned) → is_named (Command name value guard action) ≡ true → is_command_in v (command_of v.vars name value guard action) ≡ true
+  command_is name value guard action h =
+      let words = and_parts (is_name name && is_name value) (not (sets_twice action)) h in
+      and_from _ _ (and_from _ _ words.0 (test_in_range v.vars guard fit)) (assigns_in_range v.vars action fit (not-true (sets_twice action) words.1))
 
--- how many there are
-props_counted : (vars : List Domain) (ss : List Statement) → length (props_of vars ss) ≡ count_of is_prop ss
-props_counted vars [] = refl
-props_counted vars (View name ∷ ss) = omega (arith, props_counted vars ss)
-props_counted vars (Lattice file ∷ ss) = omega (arith, props_counted vars ss)
-props_counted vars (Var name values ∷ ss) = omega (arith, props_counted vars ss)
-props_counted vars (Init guard ∷ ss) = omega (arith, props_counted vars ss)
-props_counted vars (Prop name value guard ∷ ss) = omega (arith, props_counted vars ss)
-props_counted vars (Command name value guard action ∷ ss) = omega (arith, props_counted vars ss)
+  commands_in : (ss : List Statement) → list_all is_named ss ≡ true → list_all (is_command_in v) (filter_map (command_in v.vars) ss) ≡ true
+  commands_in = all_in (command_in v.vars) is_named (is_command_in v) (command_case v.vars (λ s c. is_named s ≡ true → is_command_in v c ≡ true) command_is)
 
--- and how many commands
-commands_counted : (vars : List Domain) (ss : List Statement) → length (commands_of vars ss) ≡ count_of is_command ss
-commands_counted vars [] = refl
-commands_counted vars (View name ∷ ss) = omega (arith, commands_counted vars ss)
-commands_counted vars (Lattice file ∷ ss) = omega (arith, commands_counted vars ss)
-commands_counted vars (Var name values ∷ ss) = omega (arith, commands_counted vars ss)
-commands_counted vars (Init guard ∷ ss) = omega (arith, commands_counted vars ss)
-commands_counted vars (Prop name value guard ∷ ss) = omega (arith, commands_counted vars ss)
-commands_counted vars (Command name value guard action ∷ ss) = omega (arith, commands_counted vars ss)
+-- the names of the lines of propositions, and those of the commands
+prop_part : (vars : List Domain) (s : Statement) → option_map (λ (l : PropValue). l.name) (prop_in vars s) ≡ prop_name s
+prop_part vars (View name) = refl
+prop_part vars (Lattice file) = refl
+prop_part vars (Var domain) = refl
+prop_part vars (Init guard) = refl
+prop_part vars (Prop name value guard) = refl
+prop_part vars (Command name value guard action) = refl
 
--- the commands' names
-commands_named : (vars : List Domain) (ss : List Statement) → map (λ (c : CommandValue). c.name) (commands_of vars ss) ≡ command_names ss
-commands_named vars [] = refl
-commands_named vars (View name ∷ ss) = commands_named vars ss
-commands_named vars (Lattice file ∷ ss) = commands_named vars ss
-commands_named vars (Var name values ∷ ss) = commands_named vars ss
-commands_named vars (Init guard ∷ ss) = commands_named vars ss
-commands_named vars (Prop name value guard ∷ ss) = commands_named vars ss
-commands_named vars (Command name value guard action ∷ ss) = ap (λ (names : List (List ℕ)). name ∷ names) (commands_named vars ss)
+command_part : (vars : List Domain) (s : Statement) → option_map (λ (c : CommandValue). c.name) (command_in vars s) ≡ command_name s
+command_part vars (View name) = refl
+command_part vars (Lattice file) = refl
+command_part vars (Var domain) = refl
+command_part vars (Init guard) = refl
+command_part vars (Prop name value guard) = refl
+command_part vars (Command name value guard action) = refl
+
+commands_named : (vars : List Domain) (ss : List Statement) → map (λ (c : CommandValue). c.name) (filter_map (command_in vars) ss) ≡ command_names ss
+commands_named vars = part_in (command_in vars) (λ (c : CommandValue). c.name) command_name (command_part vars)
+
+-- and how many there are
+props_counted : (vars : List Domain) (ss : List Statement) → length (filter_map (prop_in vars) ss) ≡ length (prop_names ss)
+props_counted vars ss = sym (length-map (filter_map (prop_in vars) ss) (λ (l : PropValue). l.name)) ∙ ap length (part_in (prop_in vars) (λ (l : PropValue). l.name) prop_name (prop_part vars) ss)
+
+commands_counted : (vars : List Domain) (ss : List Statement) → length (filter_map (command_in vars) ss) ≡ length (command_names ss)
+commands_counted vars ss = sym (length-map (filter_map (command_in vars) ss) (λ (c : CommandValue). c.name)) ∙ ap length (commands_named vars ss)
 
 -- the variables' names
 vars_named : (ss : List Statement) → list_all is_named ss ≡ true → list_all is_named_var (vars_of ss) ≡ true
-vars_named [] h = refl
-vars_named (View name ∷ ss) h = vars_named ss (and_parts _ _ h).1
-vars_named (Lattice file ∷ ss) h = vars_named ss (and_parts _ _ h).1
-vars_named (Var name values ∷ ss) h =
-    let parts = and_parts (is_variable_name name && list_all is_value_name values) (list_all is_named ss) h in
-    and_from _ _ parts.0 (vars_named ss parts.1)
-vars_named (Init guard ∷ ss) h = vars_named ss h
-vars_named (Prop name value guard ∷ ss) h = vars_named ss (and_parts _ _ h).1
-vars_named (Command name value guard action ∷ ss) h = vars_named ss (and_parts _ _ h).1
+vars_named = all_in var_in is_named is_named_var (var_case (λ s d. is_named s ≡ true → is_named_var d ≡ true) (λ d n. n))
 
 -- what whole files have
 pub two_there : (ss : List Statement) → missing_part ss ≡ None → 2 ≤ length ss
@@ -137,39 +115,23 @@ var_there (s ∷ t ∷ more) h = within (nat_lt 0 (length (vars_of (s ∷ t ∷ 
     within true rest e k = ltb-true 0 (length (vars_of (s ∷ t ∷ more))) e
     within false rest e k = absurd (some_is_not parts.Var k)
 
--- the first statement has a name
-head_named : (ss : List Statement) → 2 ≤ length ss → begins ss ≡ true → list_all is_named ss ≡ true → is_name (first_name ss) ≡ true
+-- the first statement has a name, and the second a file word
+head_named : (ss : List Statement) → 2 ≤ length ss → begins ss ≡ true → list_all is_named ss ≡ true → is_name (first_of name_in [] ss) ≡ true
 head_named [] two b h = absurd (omega arith)
 head_named (s ∷ []) two b h = absurd (omega arith)
-head_named (View name ∷ t ∷ more) two b h = (and_parts _ _ h).0
-head_named (Lattice file ∷ t ∷ more) two b h = cc
-head_named (Var name values ∷ t ∷ more) two b h = cc
-head_named (Init guard ∷ t ∷ more) two b h = cc
-head_named (Prop name value guard ∷ t ∷ more) two b h = cc
-head_named (Command name value guard action ∷ t ∷ more) two b h = cc
+head_named (s ∷ t ∷ more) two b h =
+    let kind = (and_parts (is_some (name_in s)) (is_some (lattice_in t)) b).0 in
+    subst (λ (x : List ℕ). is_name x ≡ true) (sym (first_is name_in [] s (t ∷ more) kind))
+    (first_holds name_in is_named is_name [] (name_case (λ r x. is_named r ≡ true → is_name x ≡ true) (λ x n. n)) s kind (and_parts (is_named s) (list_all is_named (t ∷ more)) h).0)
 
--- the second has a file word
-second_named : (s t : Statement) (more : List Statement) → is_view s ≡ true → is_lattice t ≡ true → is_named t ≡ true → is_file_word (first_lattice (s ∷ t ∷ more)) ≡ true
-second_named (View name) (Lattice file) more s_is t_is h = h
-second_named (View name) (View other) more s_is t_is h = cc
-second_named (View name) (Var other values) more s_is t_is h = cc
-second_named (View name) (Init guard) more s_is t_is h = cc
-second_named (View name) (Prop other value guard) more s_is t_is h = cc
-second_named (View name) (Command other value guard action) more s_is t_is h = cc
-second_named (Lattice file) t more s_is t_is h = cc
-second_named (Var name values) t more s_is t_is h = cc
-second_named (Init guard) t more s_is t_is h = cc
-second_named (Prop name value guard) t more s_is t_is h = cc
-second_named (Command name value guard action) t more s_is t_is h = cc
-
--- the lattice's file is a file word
-lattice_named : (ss : List Statement) → 2 ≤ length ss → begins ss ≡ true → list_all is_named ss ≡ true → is_file_word (first_lattice ss) ≡ true
+lattice_named : (ss : List Statement) → 2 ≤ length ss → begins ss ≡ true → list_all is_named ss ≡ true → is_file_word (first_of lattice_in [] ss) ≡ true
 lattice_named [] two b h = absurd (omega arith)
 lattice_named (s ∷ []) two b h = absurd (omega arith)
 lattice_named (s ∷ t ∷ more) two b h =
-    let kinds = and_parts (is_view s) (is_lattice t) b in
+    let kinds = and_parts (is_some (name_in s)) (is_some (lattice_in t)) b in
     let rest = and_parts (is_named s) (list_all is_named (t ∷ more)) h in
-    second_named s t more kinds.0 kinds.1 (and_parts (is_named t) (list_all is_named more) rest.1).0
+    subst (λ (x : List ℕ). is_file_word x ≡ true) (sym (lattice_is s t more kinds.0 kinds.1))
+    (first_holds lattice_in is_named is_file_word [] (lattice_case (λ r x. is_named r ≡ true → is_file_word x ≡ true) (λ x n. n)) t kinds.1 (and_parts (is_named t) (list_all is_named more) rest.1).0)
 
 -- what a whole file says is sound
 pub view_is_sound : (ss : List Statement) → IsFair ss → missing_part ss ≡ None → is_sound (view_of ss) ≡ true
@@ -178,7 +140,7 @@ view_is_sound ss h m =
     let two = two_there ss m in
     let fit = fit_from_sized vars h.sized (var_there ss m) in
     let named = and_from _ _ (head_named ss two h.starts h.named) (lattice_named ss two h.starts h.named) in
-    let ranged = and_from _ _ (and_from _ _ named fit) (init_in_range vars ss fit) in
-    let props = and_from _ _ (and_from _ _ ranged (props_in (view_of ss) fit ss h.named)) (le-leb (length (props_of vars ss)) line_limit (omega (arith, props_counted vars ss, h.props))) in
-    let commands = and_from _ _ (and_from _ _ props (commands_in (view_of ss) fit ss h.named)) (le-leb (length (commands_of vars ss)) line_limit (omega (arith, commands_counted vars ss, h.commands))) in
+    let ranged = and_from _ _ (and_from _ _ named fit) (init_in_range vars ss fit h.named) in
+    let props = and_from _ _ (and_from _ _ ranged (props_in (view_of ss) fit ss h.named)) (le-leb (length (filter_map (prop_in vars) ss)) line_limit (omega (arith, props_counted vars ss, h.props))) in
+    let commands = and_from _ _ (and_from _ _ props (commands_in (view_of ss) fit ss h.named)) (le-leb (length (filter_map (command_in vars) ss)) line_limit (omega (arith, commands_counted vars ss, h.commands))) in
     and_from _ _ (and_from _ _ commands (not_from_false _ (ap has_twice (commands_named vars ss) ∙ h.once))) (vars_named ss h.named)

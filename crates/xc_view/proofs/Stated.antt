@@ -1,19 +1,21 @@
 -- Statements of the code, and what is asked of the statements that they are.
-use Rattle.std.proofs.Common.{◌≡◌, ℕ, ◌+◌, ◌<◌, ◌≤◌, Bool, true, false, ◌||◌, not, Some, None, if◌then◌else◌, List, [], ◌∷◌, ◌++◌, length, refl, ap, subst, sym, ◌∙◌, arith}
+use Rattle.std.proofs.Common.{◌≡◌, ℕ, ◌<◌, ◌≤◌, Bool, true, false, ◌||◌, not, Some, None, if◌then◌else◌, List, [], ◌∷◌, ◌++◌, length, refl, ap, subst, sym, ◌∙◌, arith}
 use Rattle.std.specs.List.{list_any, filter}
+use Rattle.std.specs.Option.{is_some}
 use Rattle.std.proofs.lemmas.List.{map-append}
 use Rattle.std.proofs.lemmas.Bool.{lt-ltb}
 use Rattle.std.specs.Str.{bytes_eq}
 use Rattle.xc_base.specs.Names.{is_among}
-use Rattle.xc_forms.specs.Variables.{names_of}
+use Rattle.xc_forms.proofs.ByKind.{counted}
 use Rattle.xc_forms.specs.declared.domain.Domain.{Domain}
-use Rattle.xc_view.specs.ViewFiles.{vars_of, is_init, missing_part, count_of}
+use Rattle.xc_view.specs.ViewFiles.{vars_of, is_init, prop_name, prop_names, command_name, command_names, missing_part}
 use Rattle.xc_view_lines.specs.ViewLines.{Statement}
 use Rattle.xc_base.specs.declared.fault.Part.TheVariants as parts
 use Rattle.xc_view_lines.specs.Statements.{stated}
-use Rattle.xc_view.specs.Drafts.{all_stated, IsFair}
+use Rattle.xc_view.specs.Drafts.{all_stated, is_command_of, IsFair}
 use Rattle.xc_view.proofs.Fair.{vars_append}
 use Rattle.xc_view_lines.specs.declared.statement.Statement as code
+use Rattle.xc_view_lines.specs.declared.statement.Statement.TheVariants as variants
 
 -- whether one of them passes a test
 pub any_stated : (p : Statement → Bool) (ss : List code.Statement) → list_any p (all_stated ss) ≡ list_any (λ (s : code.Statement). p (stated s)) ss
@@ -45,24 +47,22 @@ module _ (ss : List code.Statement) (two : 2 ≤ length ss) (some : 0 < length (
   pub none_lacks : list_any (λ (s : code.Statement). is_init (stated s)) ss ≡ true → missing_part (all_stated ss) ≡ None
   none_lacks h = rw (late, h)
 
--- the names of variables, and of a command
-pub any_name : (name : List ℕ) (vars : List Domain) → is_among (names_of vars) name ≡ list_any (λ (d : Domain). bytes_eq name d.name) vars
-any_name name [] = refl
-any_name name (d ∷ vars) = ap (λ b. bytes_eq name d.name || b) (any_name name vars)
+-- whether a command has a name
+pub command_named : (name : List ℕ) (ss : List code.Statement) → is_among (command_names (all_stated ss)) name ≡ list_any (λ (s : code.Statement). is_command_of name (stated s)) ss
+command_named name [] = refl
+command_named name (variants.View other ∷ ss) = command_named name ss
+command_named name (variants.Lattice file ∷ ss) = command_named name ss
+command_named name (variants.Var domain ∷ ss) = command_named name ss
+command_named name (variants.Init guard ∷ ss) = command_named name ss
+command_named name (variants.Prop other value guard ∷ ss) = command_named name ss
+command_named name (variants.Command other value guard action ∷ ss) = ap (λ b. bytes_eq name other || b) (command_named name ss)
 
--- nothing else
-pub or_none : (b : Bool) → (b || false) ≡ b
-or_none true = refl
-or_none false = refl
+-- how many lines of propositions there are, and how many commands
+pub props_counted : (ss : List code.Statement) → length (prop_names (all_stated ss)) ≡ length (filter (λ (s : code.Statement). is_some (prop_name (stated s))) ss)
+props_counted ss = counted prop_name stated ss
 
--- how many of them pass a test
-pub count_stated : (p : Statement → Bool) (ss : List code.Statement) → count_of p (all_stated ss) ≡ length (filter (λ (s : code.Statement). p (stated s)) ss)
-count_stated p [] = refl
-count_stated p (s ∷ ss) = counted (p (stated s)) (count_stated p ss)
-  where
-    counted : (b : Bool) → count_of p (all_stated ss) ≡ length (filter (λ (s : code.Statement). p (stated s)) ss) → (if b then 1 else 0) + count_of p (all_stated ss) ≡ length (if b then s ∷ filter (λ (s : code.Statement). p (stated s)) ss else filter (λ (s : code.Statement). p (stated s)) ss)
-    counted true h = omega arith
-    counted false h = omega arith
+pub commands_counted : (ss : List code.Statement) → length (command_names (all_stated ss)) ≡ length (filter (λ (s : code.Statement). is_some (command_name (stated s))) ss)
+commands_counted ss = counted command_name stated ss
 
 -- one statement more, and what it has of variables
 pub vars_with : (ss all : List code.Statement) (s : code.Statement) (vars more : List Domain) → all ≡ ss ++ s ∷ [] → vars ≡ vars_of (all_stated ss) → more ≡ vars ++ vars_of (stated s ∷ []) → more ≡ vars_of (all_stated all)

@@ -1,6 +1,6 @@
 -- What fair statements say can be written.
-use Rattle.std.proofs.Common.{◌≡◌, true, false, ◌&&◌, not, nat_le, List, [], ◌∷◌, Option, Some, None, unwrap_or, refl}
-use Rattle.std.specs.List.{list_all}
+use Rattle.std.proofs.Common.{◌≡◌, ℕ, Bool, true, false, ◌&&◌, not, nat_le, List, [], Option, Some, None, unwrap_or, refl}
+use Rattle.std.specs.List.{list_all, filter_map}
 use Rattle.std.proofs.lemmas.Bool.{and_parts, and_from, not-true, leb-true}
 use Rattle.xc_base.specs.Words.{is_name}
 use Rattle.xc_expr_text.specs.Printing.{guard_tokens}
@@ -9,13 +9,16 @@ use Rattle.xc_expr.specs.Tests as tests
 use Rattle.xc_expr_text.specs.Writable.{has_fit_names, depth_of, is_writable_guard, is_writable_action}
 use Rattle.xc_expr.specs.Written.{Written, Assigned, has_names, action_tokens, depth_limit}
 use Rattle.xc_expr.specs.declared.assign.Assign.{Assign}
+use Rattle.xc_forms.specs.ByKind.{first_of}
 use Rattle.xc_forms.specs.declared.domain.Domain.{Domain}
+use Rattle.xc_forms.proofs.ByKind.{both_all, all_in, first_in}
+use Rattle.xc_view.proofs.EachKind.{init_case, prop_case, command_case, command_of}
 use Rattle.xc_expr_text.proofs.ActionsAgain.{read_actions_are_writable}
 use Rattle.xc_expr_text.proofs.GuardPrints.{printed_sum}
 use Rattle.xc_expr_text.proofs.GuardsAgain.{read_guards_are_writable}
 use Rattle.xc_view.specs.Drafts.{is_named, is_guard_written, is_written, IsFair}
-use Rattle.xc_view.specs.ViewFiles.{vars_of, test_in, assigns_in, first_init, props_of, commands_of, view_of}
-use Rattle.xc_view_lines.specs.ViewLines.{Statement, View, Lattice, Var, Init, Prop, Command}
+use Rattle.xc_view.specs.ViewFiles.{vars_of, init_in, prop_in, command_in, test_in, assigns_in, view_of}
+use Rattle.xc_view_lines.specs.ViewLines.{Statement, Command}
 use Rattle.xc_view.specs.Writable.{is_writable_prop, is_writable_command, is_writable}
 
 module _ (vars : List Domain) where
@@ -37,41 +40,25 @@ module _ (vars : List Domain) where
       by_action (Some assigns) e = read_actions_are_writable vars (action_tokens action) assigns (record { action = action; spelled = record { spelled = refl; named = h }; once = once; known = e })
 
   -- so can those of the initial states, of lines and of commands
-  init_writable : (ss : List Statement) → list_all is_written ss ≡ true → is_writable_guard vars (first_init vars ss) ≡ true
-  init_writable [] h = refl
-  init_writable (View name ∷ ss) h = init_writable ss h
-  init_writable (Lattice file ∷ ss) h = init_writable ss h
-  init_writable (Var name values ∷ ss) h = init_writable ss h
-  init_writable (Init guard ∷ ss) h = guard_writable guard (and_parts (is_guard_written guard) (list_all is_written ss) h).0
-  init_writable (Prop name value guard ∷ ss) h = init_writable ss (and_parts (is_guard_written guard) (list_all is_written ss) h).1
-  init_writable (Command name value guard action ∷ ss) h = init_writable ss (and_parts (is_written (Command name value guard action)) (list_all is_written ss) h).1
+  init_writable : (ss : List Statement) → list_all is_written ss ≡ true → is_writable_guard vars (first_of (init_in vars) tests.False ss) ≡ true
+  init_writable ss h = first_in (init_in vars) is_written (is_writable_guard vars) (init_case vars (λ s t. is_written s ≡ true → is_writable_guard vars t ≡ true) guard_writable) tests.False ss refl h
 
-  props_writable : (ss : List Statement) → list_all is_written ss ≡ true → list_all (is_writable_prop vars) (props_of vars ss) ≡ true
-  props_writable [] h = refl
-  props_writable (View name ∷ ss) h = props_writable ss h
-  props_writable (Lattice file ∷ ss) h = props_writable ss h
-  props_writable (Var name values ∷ ss) h = props_writable ss h
-  props_writable (Init guard ∷ ss) h = props_writable ss (and_parts (is_guard_written guard) (list_all is_written ss) h).1
-  props_writable (Prop name value guard ∷ ss) h =
-      let parts = and_parts (is_guard_written guard) (list_all is_written ss) h in
-      and_from (is_writable_guard vars (test_in vars guard)) (list_all (is_writable_prop vars) (props_of vars ss)) (guard_writable guard parts.0) (props_writable ss parts.1)
-  props_writable (Command name value guard action ∷ ss) h = props_writable ss (and_parts (is_written (Command name value guard action)) (list_all is_written ss) h).1
+  props_writable : (ss : List Statement) → list_all is_written ss ≡ true → list_all (is_writable_prop vars) (filter_map (prop_in vars) ss) ≡ true
+  props_writable = all_in (prop_in vars) is_written (is_writable_prop vars) (prop_case vars (λ s l. is_written s ≡ true → is_writable_prop vars l ≡ true) (λ name value guard h. guard_writable guard h))
 
-  commands_writable : (ss : List Statement) → list_all is_named ss ≡ true → list_all is_written ss ≡ true → list_all (is_writable_command vars) (commands_of vars ss) ≡ true
-  commands_writable [] n h = refl
-  commands_writable (View name ∷ ss) n h = commands_writable ss (and_parts _ (list_all is_named ss) n).1 h
-  commands_writable (Lattice file ∷ ss) n h = commands_writable ss (and_parts _ (list_all is_named ss) n).1 h
-  commands_writable (Var name values ∷ ss) n h = commands_writable ss (and_parts _ (list_all is_named ss) n).1 h
-  commands_writable (Init guard ∷ ss) n h = commands_writable ss n (and_parts (is_guard_written guard) (list_all is_written ss) h).1
-  commands_writable (Prop name value guard ∷ ss) n h = commands_writable ss (and_parts _ (list_all is_named ss) n).1 (and_parts (is_guard_written guard) (list_all is_written ss) h).1
-  commands_writable (Command name value guard action ∷ ss) n h =
-      let names = and_parts (is_name name && is_name value && not (sets_twice action)) (list_all is_named ss) n in
-      let once = and_parts (is_name name && is_name value) (not (sets_twice action)) names.0 in
-      let parts = and_parts (is_written (Command name value guard action)) (list_all is_written ss) h in
-      let written = and_parts (is_guard_written guard) (list_all has_names action) parts.0 in
-      and_from _ (list_all (is_writable_command vars) (commands_of vars ss))
-      (and_from (is_writable_guard vars (test_in vars guard)) (is_writable_action vars (assigns_in vars action)) (guard_writable guard written.0) (action_writable action written.1 (not-true (sets_twice action) once.1)))
-      (commands_writable ss names.1 parts.1)
+  abbrev is_fit : Statement → Bool
+  is_fit s = is_named s && is_written s
+
+  command_writable : (name value : List ℕ) (guard : Written) (action : List Assigned) → is_fit (Command name value guard action) ≡ true → is_writable_command vars (command_of vars name value guard action) ≡ true
+  command_writable name value guard action h =
+      let parts = and_parts (is_named (Command name value guard action)) (is_written (Command name value guard action)) h in
+      let once = and_parts (is_name name && is_name value) (not (sets_twice action)) parts.0 in
+      let written = and_parts (is_guard_written guard) (list_all has_names action) parts.1 in
+      and_from (is_writable_guard vars (test_in vars guard)) (is_writable_action vars (assigns_in vars action)) (guard_writable guard written.0) (action_writable action written.1 (not-true (sets_twice action) once.1))
+
+  commands_writable : (ss : List Statement) → list_all is_named ss ≡ true → list_all is_written ss ≡ true → list_all (is_writable_command vars) (filter_map (command_in vars) ss) ≡ true
+  commands_writable ss n h =
+      all_in (command_in vars) is_fit (is_writable_command vars) (command_case vars (λ s c. is_fit s ≡ true → is_writable_command vars c ≡ true) command_writable) ss (both_all is_named is_written ss n h)
 
 -- a view of fair statements can be written
 pub view_is_writable : (ss : List Statement) → IsFair ss → is_writable (view_of ss) ≡ true

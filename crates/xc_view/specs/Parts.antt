@@ -4,8 +4,7 @@ use Rattle.std.specs.List.{list_all}
 use Rattle.xc_base.specs.Names.{has_twice}
 use Rattle.xc_base.specs.Words.{is_name, is_file_word}
 use Rattle.xc_forms.specs.Variables.{are_fit}
-use Rattle.xc_forms.specs.VariableNames.{is_variable_name, is_value_name}
-use Rattle.xc_forms.specs.declared.domain.Domain.{Domain}
+use Rattle.xc_forms.specs.VariableLines.{is_named_var}
 use Rattle.xc_expr.specs.Tests.{test_of, is_in_range}
 use Rattle.xc_expr.specs.Actions.{is_action_in_range}
 use Rattle.xc_view.specs.ViewFiles.{PropValue, CommandValue, ViewValue, line_limit}
@@ -24,10 +23,6 @@ is_prop_in v l = is_name l.name && is_name l.value && is_in_range v.vars l.guard
 
 abbrev pub is_command_in : ViewValue → CommandValue → Bool
 is_command_in v c = is_name c.name && is_name c.value && is_in_range v.vars c.guard && is_action_in_range v.vars c.action
-
--- a variable and its values have names of their kind
-abbrev pub is_named_var : Domain → Bool
-is_named_var d = is_variable_name d.name && list_all is_value_name d.values
 
 -- What holds of each view: variables are fit, what is named by number is there, and there are at most 256 lines of
 -- propositions and 256 commands, of different names. Names are names, each of its kind.

@@ -1,11 +1,12 @@
 ghost use Rattle.std.specs.Prelude.{◌≡◌, ◌++◌, ◌∷◌, [], true, false, None, map, IfOk, OnOk};
-ghost use Rattle.std.specs.List.{list_all};
-ghost use Rattle.std.specs.Option.{is_none};
+ghost use Rattle.std.specs.List.{list_all, filter_map};
+ghost use Rattle.std.specs.Option.{is_some, is_none};
+ghost use Rattle.xc_forms.specs.ByKind.{first_of};
 ghost use Rattle.xc_forms.specs.Variables.{are_fit};
 ghost use Rattle.xc_expr.specs.Resolving.{resolved, resolved_action};
-ghost use Rattle.xc_expr.specs.Tests.{test_of};
+ghost use Rattle.xc_expr.specs.Tests.{test_of, False as NeverHolds};
 ghost use Rattle.xc_expr.specs.Written.{written, set};
-ghost use Rattle.xc_view.specs.ViewFiles.{is_view, is_lattice, test_in, assigns_in, first_name, first_lattice, first_init, props_of, commands_of, view_of, missing_part};
+ghost use Rattle.xc_view.specs.ViewFiles.{name_in, lattice_in, init_in, prop_in, command_in, test_in, assigns_in, view_of, missing_part};
 ghost use Rattle.xc_view.specs.Parts.{prop_value, command_value};
 ghost use Rattle.xc_view.specs.Views.{value_of};
 ghost use Rattle.xc_view_lines.specs.Statements.{stated};
@@ -22,8 +23,8 @@ use xc_forms::Vars;
 use xc_view_lines::Statement;
 
 fn view_name(alloc: Global, s: &Statement) -> Result<Word, Memory>
-    requires { is_view (stated s.now) ≡ true }
-    ensures { IfOk result (λ name. name ≡ first_name (stated s.now ∷ [])) }
+    requires { is_some (name_in (stated s.now)) ≡ true }
+    ensures { IfOk result (λ name. name ≡ first_of name_in [] (stated s.now ∷ [])) }
 {
     match s {
         Statement::View(name) => name.copy(alloc),
@@ -32,8 +33,8 @@ fn view_name(alloc: Global, s: &Statement) -> Result<Word, Memory>
 }
 
 fn lattice_name(alloc: Global, s: &Statement) -> Result<Word, Memory>
-    requires { is_lattice (stated s.now) ≡ true }
-    ensures { IfOk result (λ file. file ≡ first_lattice (stated s.now ∷ [])) }
+    requires { is_some (lattice_in (stated s.now)) ≡ true }
+    ensures { IfOk result (λ file. file ≡ first_of lattice_in [] (stated s.now ∷ [])) }
 {
     match s {
         Statement::Lattice(file) => file.copy(alloc),
@@ -69,7 +70,7 @@ fn known_action(alloc: Global, settings: &[Setting], vars: &Vars) -> Result<Acti
 fn init_guard(alloc: Global, statements: &[Statement], vars: &Vars) -> Result<Guard, Memory>
     requires fit { are_fit vars.now ≡ true }
     requires known { list_all (is_known vars.now) (all_stated statements.now) ≡ true }
-    ensures { IfOk result (λ guard. test_of guard ≡ first_init vars.now (all_stated statements.now)) }
+    ensures { IfOk result (λ guard. test_of guard ≡ first_of (init_in vars.now) NeverHolds (all_stated statements.now)) }
 {
     for s in statements {
         if let Statement::Init(phrase) = s {
@@ -87,7 +88,7 @@ fn push_prop(
 ) -> Result<(), Memory>
     requires fit { are_fit vars.now ≡ true }
     requires known { is_known vars.now (stated s.now) ≡ true }
-    ensures { OnOk result (map prop_value props.new ≡ map prop_value props.old ++ props_of vars.now (stated s.now ∷ [])) }
+    ensures { OnOk result (map prop_value props.new ≡ map prop_value props.old ++ filter_map (prop_in vars.now) (stated s.now ∷ [])) }
 {
     if let Statement::Prop(name, value, phrase) = s {
         let guard = known_guard(alloc, phrase, vars)?;
@@ -106,7 +107,7 @@ fn prop_lines(
 ) -> Result<List<PropLine>, Memory>
     requires fit { are_fit vars.now ≡ true }
     requires known { list_all (is_known vars.now) (all_stated statements.now) ≡ true }
-    ensures { IfOk result (λ props. map prop_value props ≡ props_of vars.now (all_stated statements.now)) }
+    ensures { IfOk result (λ props. map prop_value props ≡ filter_map (prop_in vars.now) (all_stated statements.now)) }
 {
     let mut props = List::new(alloc);
     for s in statements {
@@ -123,7 +124,7 @@ fn push_command(
 ) -> Result<(), Memory>
     requires fit { are_fit vars.now ≡ true }
     requires known { is_known vars.now (stated s.now) ≡ true }
-    ensures { OnOk result (map command_value commands.new ≡ map command_value commands.old ++ commands_of vars.now (stated s.now ∷ [])) }
+    ensures { OnOk result (map command_value commands.new ≡ map command_value commands.old ++ filter_map (command_in vars.now) (stated s.now ∷ [])) }
 {
     if let Statement::Command(name, value, phrase, settings) = s {
         let guard = known_guard(alloc, phrase, vars)?;
@@ -144,7 +145,7 @@ fn push_command(
 fn commands(alloc: Global, statements: &[Statement], vars: &Vars) -> Result<List<Command>, Memory>
     requires fit { are_fit vars.now ≡ true }
     requires known { list_all (is_known vars.now) (all_stated statements.now) ≡ true }
-    ensures { IfOk result (λ commands. map command_value commands ≡ commands_of vars.now (all_stated statements.now)) }
+    ensures { IfOk result (λ commands. map command_value commands ≡ filter_map (command_in vars.now) (all_stated statements.now)) }
 {
     let mut commands = List::new(alloc);
     for s in statements {

@@ -1,34 +1,21 @@
 ghost use Rattle.std.specs.Prelude.{◌≡◌, true, map, IfOk};
 ghost use Rattle.std.specs.List.{list_any};
-ghost use Rattle.std.specs.Str.{bytes_eq};
 ghost use Rattle.std.specs.Option.{is_none};
 ghost use Rattle.xc_base.specs.Deciding.{statement_fault};
 ghost use Rattle.xc_forms.specs.Variables.{are_fit};
 ghost use Rattle.xc_expr.specs.Written.{written, set};
 ghost use Rattle.xc_expr.specs.Resolving.{resolved, resolved_action};
-ghost use Rattle.xc_view.specs.ViewFiles.{is_due, is_init, is_command_of, is_repeated, is_unknown, view_format};
+ghost use Rattle.xc_view.specs.ViewFiles.{is_due, is_init, is_repeated, is_unknown, view_format};
 ghost use Rattle.xc_view_lines.specs.Statements.{stated};
-ghost use Rattle.xc_view.specs.Drafts.{all_stated};
+ghost use Rattle.xc_view.specs.Drafts.{all_stated, is_command_of};
 
 use crate::draft::Draft;
 use crate::limits::limit_fault;
 use std::alloc::Global;
-use xc_base::{FileFault, Memory, Word, has_twice};
+use xc_base::{FileFault, Memory, Word};
 use xc_expr::{Phrase, Setting, resolve_action, resolve_guard, sets_twice};
-use xc_forms::{Domain, Vars};
+use xc_forms::{Vars, is_var_again};
 use xc_view_lines::Statement;
-
-fn is_var_of(domain: &Domain, name: &Word) -> bool
-    ensures { result ≡ bytes_eq name.now domain.now.name }
-{
-    name.as_str() == domain.name.as_str()
-}
-
-fn has_var(vars: &[Domain], name: &Word) -> bool
-    ensures { result ≡ list_any (λ d. bytes_eq name.now d.name) vars.now }
-{
-    vars.iter().any(|d| is_var_of(d, name))
-}
 
 /// Whether one of the statements says what the initial states are.
 pub(crate) fn has_init(statements: &[Statement]) -> bool
@@ -37,7 +24,6 @@ pub(crate) fn has_init(statements: &[Statement]) -> bool
     statements.iter().any(|s| matches!(s, Statement::Init(_)))
 }
 
-#[tactic(auto, using(crate::proofs::Stated::or_none))]
 fn is_command_of(s: &Statement, name: &Word) -> bool
     ensures { result ≡ is_command_of name.now (stated s.now) }
 {
@@ -53,15 +39,13 @@ fn has_command(statements: &[Statement], name: &Word) -> bool
     statements.iter().any(|s| is_command_of(s, name))
 }
 
-#[tactic(auto, using(crate::proofs::Stated::any_stated, crate::proofs::Stated::any_name))]
+#[tactic(auto, using(crate::proofs::Stated::any_stated, crate::proofs::Stated::command_named))]
 fn is_repeated(draft: &Draft, s: &Statement) -> bool
     ensures { result ≡ is_repeated (all_stated draft.now.statements) (stated s.now) }
 {
     let before = draft.statements.as_slice();
     match s {
-        Statement::Var(domain) => {
-            has_var(draft.vars.as_slice(), &domain.name) || has_twice(domain.values.as_slice())
-        }
+        Statement::Var(domain) => is_var_again(draft.vars.as_slice(), domain),
         Statement::Init(_) => has_init(before),
         Statement::Command(name, _, _, action) => {
             has_command(before, name) || sets_twice(action.as_slice())

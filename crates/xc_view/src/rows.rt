@@ -5,7 +5,7 @@ ghost use Rattle.xc_base.specs.Lines.{texts, rows_in, row_at};
 ghost use Rattle.xc_view.specs.ViewFiles.{is_due, missing_part, view_format};
 ghost use Rattle.xc_view.specs.Deciding.{decide};
 ghost use Rattle.xc_view_lines.specs.Statements.{stated, GivesAs};
-ghost use Rattle.xc_view.specs.Drafts.{all_stated};
+ghost use Rattle.xc_view.specs.Drafts.{all_stated, is_placed};
 ghost use Rattle.xc_view.specs.Drafted.{drafted};
 
 use crate::draft::Draft;
@@ -15,8 +15,18 @@ use std::alloc::Global;
 use xc_base::{FileFault, Lexeme, Lines, Memory, Part, Stop};
 use xc_view_lines::{Statement, line};
 
+/// Whether there is a statement, and it is due after those of a draft.
+fn is_placed(draft: &Draft, s: &Option<Statement>) -> bool
+    ensures { result ≡ is_placed (all_stated draft.now.statements) (option_map stated s.now) }
+{
+    match s {
+        Some(s) => is_due(draft, s),
+        None => false,
+    }
+}
+
 /// The statement that a row of these tokens is after those of a draft, where it is one.
-#[tactic(auto, unfolding(crate::specs::Deciding::decide))]
+#[tactic(auto, using(crate::proofs::Placing::decided, crate::proofs::Placing::undecided, crate::proofs::Placing::placed_is_due))]
 fn decide<'a>(
     alloc: Global,
     draft: &Draft,
@@ -27,9 +37,11 @@ fn decide<'a>(
     ensures due { IfOk result
         (λ s. IfSome s (λ t. is_due (all_stated draft.now.statements) (stated t) ≡ true)) }
 {
-    match line(alloc, tokens)? {
-        Some(s) if is_due(draft, &s) => Ok(Some(s)),
-        _ => Ok(None),
+    let s = line(alloc, tokens)?;
+    if is_placed(draft, &s) {
+        Ok(s)
+    } else {
+        Ok(None)
     }
 }
 

@@ -11,7 +11,8 @@ use Rattle.xc_expr.specs.declared.phrase.Phrase.{Phrase}
 use Rattle.xc_expr.specs.declared.setting.Setting.{Setting}
 use Rattle.xc_view_lines.specs.ViewLines.{Command}
 use Rattle.xc_view_lines.specs.LineReading.{command_at, command_parts}
-use Rattle.xc_view_lines.proofs.Tokens.{do_in_texts, front_texts, back_texts}
+use Rattle.xc_forms.proofs.Tokens.{back_texts}
+use Rattle.xc_view_lines.proofs.Tokens.{do_in_texts, front_texts}
 
 -- the first `do` of tokens
 abbrev pub first_do : List Lexeme → Option ℕ

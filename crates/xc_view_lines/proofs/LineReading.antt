@@ -1,6 +1,6 @@
 -- A line is read as the statement that its tokens are.
-use Rattle.std.proofs.Common.{◌≡◌, ℕ, suc, ◌+◌, ◌<◌, Bool, true, false, ◌&&◌, cond, if◌then◌else◌, List, [], ◌∷◌, ◌++◌, Option, Some, None, length, take, drop, get_or, nat_lt, codes, refl, sym, ◌∙◌, subst, ap, arith, length-append}
-use Rattle.std.specs.List.{list_all, position, position_or_len}
+use Rattle.std.proofs.Common.{◌≡◌, ℕ, ◌+◌, ◌<◌, Bool, true, false, ◌&&◌, cond, if◌then◌else◌, List, [], ◌∷◌, ◌++◌, Option, Some, None, length, take, drop, get_or, nat_lt, codes, refl, sym, ◌∙◌, subst, ap, arith, length-append}
+use Rattle.std.specs.List.{position, position_or_len}
 use Rattle.std.specs.Option.{option_map}
 use Rattle.std.specs.Str.{bytes_eq}
 use Rattle.std.proofs.lemmas.Bool.{and_parts, or_parts, lt-ltb, ltb-true}
@@ -11,7 +11,9 @@ use Rattle.xc_base.proofs.Naming.{same_bytes}
 use Rattle.xc_base.specs.Names.{is_among}
 use Rattle.xc_base.specs.Words.{is_name, is_file_word}
 use Rattle.xc_expr.specs.Written.{Written, Assigned, IsGuard, IsAction}
-use Rattle.xc_forms.specs.VariableNames.{is_variable_name, is_value_name}
+use Rattle.xc_forms.specs.VariableLines.{var_tokens}
+use Rattle.xc_forms.specs.VariableReading as forms
+use Rattle.xc_forms.proofs.VariableReading as declared
 use Rattle.xc_expr.specs.Resolving.{both}
 use Rattle.xc_expr.specs.Reading.{guard_in, action_in}
 use Rattle.xc_view_lines.specs.ViewLines.{Statement, View, Lattice, Var, Init, Prop, Command, IsStated}
@@ -66,15 +68,10 @@ lattice_sound (file ∷ other ∷ more) s h = absurd (none_is_not s h)
 
 -- a variable's line
 var_sound : (tokens : List (List ℕ)) (s : Statement) → var_line tokens ≡ Some s → IsStated (codes "var" ∷ tokens) s
-var_sound [] s h = absurd (none_is_not s h)
-var_sound (name ∷ []) s h =
-    let parts = given_some (is_variable_name name && false) (Var name []) s h in
-    let never : false ≡ true = (and_parts (is_variable_name name) false parts.0).1 in
-    cc
-var_sound (name ∷ value ∷ values) s h =
-    let parts = given_some (is_variable_name name && (nat_lt 0 (length (value ∷ values)) && list_all is_value_name (value ∷ values))) (Var name (value ∷ values)) s h in
-    let both = and_parts _ _ parts.0 in
-    subst (IsStated (codes "var" ∷ name ∷ value ∷ values)) parts.1 (files.var name value values both.0 (and_parts _ _ both.1).1)
+var_sound tokens s h =
+    let found = mapped_some Var (forms.var_line tokens) s h in
+    let parts = declared.var_sound tokens found.0 found.1.0 in
+    subst (λ (ts : List (List ℕ)). IsStated ts s) (sym parts.0) (subst (IsStated (var_tokens found.0)) found.1.1 (files.var found.0 parts.1))
 
 -- the line of the initial states
 init_sound : (tokens : List (List ℕ)) (s : Statement) → init_line tokens ≡ Some s → IsStated (codes "init" ∷ tokens) s
@@ -197,7 +194,7 @@ pub line_complete : {tokens : List (List ℕ)} {s : Statement} → IsStated toke
 unfolding line word_line
 line_complete (files.view name h) = rw h
 line_complete (files.lattice file h) = rw h
-line_complete (files.var name value values h k) = rw (h, lt-ltb 0 (suc (length values)) (omega arith), k)
+line_complete (files.var domain h) = ap (option_map Var) (declared.var_complete domain h)
 line_complete (files.init tokens guard g) = rw ((guards_read tokens guard).1 g)
 line_complete (files.prop name value tokens guard n v g) = rw (n, v, (guards_read tokens guard).1 g)
 line_complete (files.command name value tokens more guard action n v g a) = rw (n, v, command_given name value tokens more guard action g a)

@@ -1,10 +1,10 @@
 -- Which statement of a viewpoint file the tokens of a line are.
-use Rattle.std.specs.Prelude.{ℕ, ◌+◌, Bool, ◌&&◌, nat_lt, if◌then◌else◌, List, [], ◌∷◌, length, take, drop, Option, Some, None, codes}
-use Rattle.std.specs.List.{list_all, position}
+use Rattle.std.specs.Prelude.{ℕ, ◌+◌, Bool, ◌&&◌, if◌then◌else◌, List, [], ◌∷◌, take, drop, Option, Some, None, codes}
+use Rattle.std.specs.List.{position}
 use Rattle.std.specs.Option.{option_map}
 use Rattle.std.specs.Str.{bytes_eq}
 use Rattle.xc_base.specs.Words.{is_name, is_file_word}
-use Rattle.xc_forms.specs.VariableNames.{is_variable_name, is_value_name}
+use Rattle.xc_forms.specs.VariableReading as forms
 use Rattle.xc_expr.specs.Resolving.{both}
 use Rattle.xc_expr.specs.Reading.{guard_in, action_in}
 use Rattle.xc_view_lines.specs.ViewLines.{Statement, View, Lattice, Var, Init, Prop, Command}
@@ -25,8 +25,7 @@ lattice_line _ = None
 
 -- a variable's name, and one value or more
 abbrev pub var_line : List (List ℕ) → Option Statement
-var_line (name ∷ values) = given (is_variable_name name && (nat_lt 0 (length values) && list_all is_value_name values)) (Var name values)
-var_line [] = None
+var_line tokens = option_map Var (forms.var_line tokens)
 
 -- a guard
 abbrev pub init_line : List (List ℕ) → Option Statement

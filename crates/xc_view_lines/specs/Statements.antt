@@ -13,7 +13,7 @@ use Rattle.xc_view_lines.specs.declared.statement.Statement.TheVariants.{View, L
 abbrev pub stated : Statement → files.Statement
 stated (View name) = files.View name
 stated (Lattice file) = files.Lattice file
-stated (Var domain) = files.Var domain.name domain.values
+stated (Var domain) = files.Var domain
 stated (Init guard) = files.Init (written guard)
 stated (Prop name value guard) = files.Prop name value (written guard)
 stated (Command name value guard action) = files.Command name value (written guard) (map set action)

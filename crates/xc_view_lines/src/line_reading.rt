@@ -1,19 +1,18 @@
-ghost use Rattle.std.specs.Prelude.{◌≡◌, ◌&&◌, true, length, nat_lt, IfOk, codes};
-ghost use Rattle.std.specs.List.{list_all, position};
+ghost use Rattle.std.specs.Prelude.{◌≡◌, true, IfOk, codes};
+ghost use Rattle.std.specs.List.{position};
 ghost use Rattle.std.specs.Option.{option_map};
 ghost use Rattle.std.specs.Str.{bytes_eq};
 ghost use Rattle.xc_base.specs.Words.{is_name, is_word};
 ghost use Rattle.xc_base.specs.Lines.{texts};
-ghost use Rattle.xc_forms.specs.VariableNames.{is_value_name as is_value_text};
 ghost use Rattle.xc_view_lines.specs.LineReading.{view_line, lattice_line, var_line, init_line, prop_line};
 ghost use Rattle.xc_view_lines.specs.LineReading.{command_parts, command_line, word_line, line};
 ghost use Rattle.xc_view_lines.specs.Statements.{stated};
 
 use crate::statement::Statement;
 use std::alloc::Global;
-use xc_base::{Lexeme, List, Memory, Word, is_name_text, is_word_text};
+use xc_base::{Lexeme, Memory, Word, is_name_text, is_word_text};
 use xc_expr::{parse_action, parse_guard};
-use xc_forms::{Domain, is_value_name, is_variable_name};
+use xc_forms::var_line;
 
 fn view_line<'a>(alloc: Global, tokens: &[Lexeme<'a>]) -> Result<Option<Statement<'a>>, Memory>
     ensures { IfOk result (λ s. option_map stated s ≡ view_line (texts tokens.now)) }
@@ -39,41 +38,12 @@ fn lattice_line<'a>(alloc: Global, tokens: &[Lexeme<'a>]) -> Result<Option<State
     }
 }
 
-fn all_value_names(tokens: &[Lexeme]) -> bool
-    ensures { result ≡ list_all (λ x. is_value_text x.text.now) tokens.now }
-{
-    tokens.iter().all(|x| is_value_name(x.text))
-}
-
-#[tactic(auto, using(crate::proofs::Tokens::all_texts, crate::proofs::Tokens::some_texts))]
-fn are_value_names(tokens: &[Lexeme]) -> bool
-    ensures { result ≡ (nat_lt 0 (length (texts tokens.now)) && list_all is_value_text (texts tokens.now)) }
-{
-    !tokens.is_empty() && all_value_names(tokens)
-}
-
-#[tactic(auto, using(crate::proofs::Tokens::values_are_words))]
-fn words_of(alloc: Global, tokens: &[Lexeme]) -> Result<List<Word>, Memory>
-    requires { list_all is_value_text (texts tokens.now) ≡ true }
-    ensures { IfOk result (λ words. words ≡ texts tokens.now) }
-{
-    let mut words = List::new(alloc);
-    for x in tokens {
-        words.push(Word::of(alloc, x.text)?)?;
-    }
-    Ok(words)
-}
-
-fn var_line<'a>(alloc: Global, tokens: &[Lexeme<'a>]) -> Result<Option<Statement<'a>>, Memory>
+fn declared_line<'a>(alloc: Global, tokens: &[Lexeme]) -> Result<Option<Statement<'a>>, Memory>
     ensures { IfOk result (λ s. option_map stated s ≡ var_line (texts tokens.now)) }
 {
-    match tokens {
-        [name, values @ ..] if is_variable_name(name.text) && are_value_names(values) => {
-            let name = Word::of(alloc, name.text)?;
-            let values = words_of(alloc, values)?;
-            Ok(Some(Statement::Var(Domain { name, values })))
-        }
-        _ => Ok(None),
+    match var_line(alloc, tokens)? {
+        Some(domain) => Ok(Some(Statement::Var(domain))),
+        None => Ok(None),
     }
 }
 
@@ -112,7 +82,7 @@ fn find_do(tokens: &[Lexeme]) -> Option<usize>
     tokens.iter().position(|x| b"do".as_slice() == x.text)
 }
 
-#[tactic(auto, using(crate::proofs::Tokens::do_in_texts, crate::proofs::Tokens::front_texts, crate::proofs::Tokens::back_texts), unfolding(crate::specs::LineReading::command_parts))]
+#[tactic(auto, using(crate::proofs::Tokens::do_in_texts, crate::proofs::Tokens::front_texts, xc_forms::proofs::Tokens::back_texts), unfolding(crate::specs::LineReading::command_parts))]
 fn command_parts<'a>(
     alloc: Global,
     name: &[u8],
@@ -166,7 +136,7 @@ fn word_line<'a>(
     } else if word == b"lattice".as_slice() {
         lattice_line(alloc, tokens)
     } else if word == b"var".as_slice() {
-        var_line(alloc, tokens)
+        declared_line(alloc, tokens)
     } else if word == b"init".as_slice() {
         init_line(alloc, tokens)
     } else if word == b"prop".as_slice() {

@@ -1,61 +1,40 @@
 -- The lines of a canonical text, kind by kind.
 use Rattle.std.proofs.Common.{◌≡◌, ℕ, suc, ◌+◌, ◌<◌, ◌≤◌, true, List, [], ◌∷◌, ◌++◌, map, length, get_or, drop, drop-cons, add-one, refl, sym, ◌∙◌, ap, append_assoc}
 use Rattle.std.specs.List.{list_all}
-use Rattle.std.proofs.lemmas.List.{drop_all, map-append}
+use Rattle.std.proofs.lemmas.List.{drop_all}
 use Rattle.std.proofs.lemmas.List.Sums.{AllPass-from_list_all}
 use Rattle.std.proofs.lemmas.Bool.{and_parts, and_from}
 use Rattle.xc_base.specs.Canonical.{canonical}
 use Rattle.xc_expr_text.specs.Printing.{named_guard}
 use Rattle.xc_expr.specs.Actions.{is_action_in_range}
 use Rattle.xc_expr.specs.Tests.{Test, test_of, is_in_range}
+use Rattle.xc_forms.specs.PrintedLines as forms
+use Rattle.xc_forms.specs.PrintedLines.{printed}
+use Rattle.xc_forms.specs.VariableLines.{var_tokens}
 use Rattle.xc_forms.specs.declared.domain.Domain.{Domain}
+use Rattle.xc_forms.proofs.PrintedLines.{canonical-append, written_before, vars_written}
 use Rattle.xc_view.specs.ViewFiles.{ViewValue, PropValue, CommandValue}
-use Rattle.xc_view_lines.specs.ViewLines.{Statement, View, Lattice, Init}
+use Rattle.xc_view_lines.specs.ViewLines.{Statement, View, Lattice, Var, Init}
 use Rattle.xc_view.specs.Parts.{prop_value, command_value, is_prop_in, is_command_in, is_sound}
-use Rattle.xc_view.specs.Printing.{spelling, var_statement, prop_statement, command_statement, view_lines}
-use Rattle.xc_view_text.specs.Spelled.{spelled, is_prop_printed, is_command_printed}
+use Rattle.xc_view.specs.Printing.{spelling, prop_statement, command_statement, view_lines}
+use Rattle.xc_view_text.specs.Spelled.{written, is_prop_printed, is_command_printed}
 use Rattle.xc_view.specs.declared.lines.PropLine.{PropLine}
 use Rattle.xc_view.specs.declared.lines.Command as steps
 
--- the text of lines, and of others behind them
-canonical-append : (xs ys : List (List (List ℕ))) → canonical (xs ++ ys) ≡ canonical xs ++ canonical ys
-unfolding canonical
-canonical-append [] ys = refl
-canonical-append (x ∷ xs) ys = rw (canonical-append xs ys, append_assoc)
-
--- what the items from a place on are as text, and behind the last one
-spelled_from : {X : Type 0} (say : X → Statement) (xs : List X) (i : ℕ) (d : X) → i < length xs → spelled say (drop i xs) ≡ spelled say (get_or xs i d ∷ []) ++ spelled say (drop (i + 1) xs)
-unfolding spelled
-spelled_from say xs i d h = rw (add-one, drop-cons xs i d) (canonical-append (spelling (say (get_or xs i d)) ∷ []) (map spelling (map say (drop (suc i) xs))))
-
-spelled_end : {X : Type 0} (say : X → Statement) (xs : List X) (i : ℕ) → length xs ≤ i → spelled say (drop i xs) ≡ []
-unfolding spelled canonical
-spelled_end say xs i h = rw (drop_all i xs h)
-
--- words from a place on
-pub words_from : (words : List (List ℕ)) (i : ℕ) (d : List ℕ) → i < length words → drop i words ≡ get_or words i d ∷ drop (i + 1) words
-words_from words i d h = rw add-one (drop-cons words i d h)
-
-pub words_end : (words : List (List ℕ)) (i : ℕ) → length words ≤ i → drop i words ≡ []
-words_end words i h = drop_all i words h
-
 -- variables
-pub vars_from : (vars : List Domain) (i : ℕ) (d : Domain) → i < length vars → spelled var_statement (drop i vars) ≡ spelled var_statement (get_or vars i d ∷ []) ++ spelled var_statement (drop (i + 1) vars)
-vars_from vars i d h = spelled_from var_statement vars i d h
-
-pub vars_end : (vars : List Domain) (i : ℕ) → length vars ≤ i → spelled var_statement (drop i vars) ≡ []
-vars_end vars i h = spelled_end var_statement vars i h
+pub vars_lines : (vars : List Domain) → printed var_tokens vars ≡ written Var vars
+vars_lines vars = vars_written spelling Var vars (λ d. refl)
 
 -- lines of propositions
 pub props_from : (vars : List Domain) (lines : List PropLine) (i : ℕ) (d : PropLine) → i < length lines
-    → spelled (prop_statement vars) (map prop_value (drop i lines)) ≡ spelled (prop_statement vars) (prop_value (get_or lines i d) ∷ []) ++ spelled (prop_statement vars) (map prop_value (drop (i + 1) lines))
-unfolding spelled
+    → written (prop_statement vars) (map prop_value (drop i lines)) ≡ written (prop_statement vars) (prop_value (get_or lines i d) ∷ []) ++ written (prop_statement vars) (map prop_value (drop (i + 1) lines))
+unfolding forms.written
 props_from vars lines i d h =
     rw (add-one, drop-cons lines i d)
     (canonical-append (spelling (prop_statement vars (prop_value (get_or lines i d))) ∷ []) (map spelling (map (prop_statement vars) (map prop_value (drop (suc i) lines)))))
 
-pub props_end : (vars : List Domain) (lines : List PropLine) (i : ℕ) → length lines ≤ i → spelled (prop_statement vars) (map prop_value (drop i lines)) ≡ []
-unfolding spelled canonical
+pub props_end : (vars : List Domain) (lines : List PropLine) (i : ℕ) → length lines ≤ i → written (prop_statement vars) (map prop_value (drop i lines)) ≡ []
+unfolding forms.written canonical
 props_end vars lines i h = rw (drop_all i lines h)
 
 pub prop_at : (vars : List Domain) (lines : List PropLine) (i : ℕ) (d : PropLine) → list_all (is_prop_printed vars) lines ≡ true → i < length lines → is_prop_printed vars (get_or lines i d) ≡ true
@@ -63,42 +42,41 @@ prop_at vars lines i d h within = AllPass-from_list_all (is_prop_printed vars) l
 
 -- commands
 pub commands_from : (vars : List Domain) (commands : List steps.Command) (i : ℕ) (d : steps.Command) → i < length commands
-    → spelled (command_statement vars) (map command_value (drop i commands)) ≡ spelled (command_statement vars) (command_value (get_or commands i d) ∷ []) ++ spelled (command_statement vars) (map command_value (drop (i + 1) commands))
-unfolding spelled
+    → written (command_statement vars) (map command_value (drop i commands)) ≡ written (command_statement vars) (command_value (get_or commands i d) ∷ []) ++ written (command_statement vars) (map command_value (drop (i + 1) commands))
+unfolding forms.written
 commands_from vars commands i d h =
     rw (add-one, drop-cons commands i d)
     (canonical-append (spelling (command_statement vars (command_value (get_or commands i d))) ∷ []) (map spelling (map (command_statement vars) (map command_value (drop (suc i) commands)))))
 
-pub commands_end : (vars : List Domain) (commands : List steps.Command) (i : ℕ) → length commands ≤ i → spelled (command_statement vars) (map command_value (drop i commands)) ≡ []
-unfolding spelled canonical
+pub commands_end : (vars : List Domain) (commands : List steps.Command) (i : ℕ) → length commands ≤ i → written (command_statement vars) (map command_value (drop i commands)) ≡ []
+unfolding forms.written canonical
 commands_end vars commands i h = rw (drop_all i commands h)
 
 pub command_at : (vars : List Domain) (commands : List steps.Command) (i : ℕ) (d : steps.Command) → list_all (is_command_printed vars) commands ≡ true → i < length commands → is_command_printed vars (get_or commands i d) ≡ true
 command_at vars commands i d h within = AllPass-from_list_all (is_command_printed vars) commands h i d within
 
 -- the items of one kind, and what stands behind them
-behind : {X : Type 0} (say : X → Statement) (xs : List X) (ss : List Statement) → canonical (map spelling (map say xs ++ ss)) ≡ spelled say xs ++ canonical (map spelling ss)
-unfolding spelled
-behind say xs ss = ap canonical (map-append spelling (map say xs) ss) ∙ canonical-append (map spelling (map say xs)) (map spelling ss)
+behind : {X : Type 0} (say : X → Statement) (xs : List X) (ss : List Statement) → canonical (map spelling (map say xs ++ ss)) ≡ written say xs ++ canonical (map spelling ss)
+behind say xs ss = written_before spelling say xs ss
 
-last_kind : {X : Type 0} (say : X → Statement) (xs : List X) → canonical (map spelling (map say xs)) ≡ spelled say xs
-unfolding spelled
+last_kind : {X : Type 0} (say : X → Statement) (xs : List X) → canonical (map spelling (map say xs)) ≡ written say xs
+unfolding forms.written
 last_kind say xs = refl
 
 -- the whole text
-whole_text : (v : ViewValue) → (((((spelled View (v.name ∷ []) ++ spelled Lattice (v.lattice ∷ [])) ++ spelled var_statement v.vars) ++ spelled Init (named_guard v.vars v.init ∷ [])) ++ spelled (prop_statement v.vars) v.props) ++ spelled (command_statement v.vars) v.commands) ≡ canonical (view_lines v)
+whole_text : (v : ViewValue) → (((((written View (v.name ∷ []) ++ written Lattice (v.lattice ∷ [])) ++ written Var v.vars) ++ written Init (named_guard v.vars v.init ∷ [])) ++ written (prop_statement v.vars) v.props) ++ written (command_statement v.vars) v.commands) ≡ canonical (view_lines v)
 whole_text v =
     let props : List Statement = map (prop_statement v.vars) v.props ++ map (command_statement v.vars) v.commands in
     let init : List Statement = Init (named_guard v.vars v.init) ∷ props in
-    let vars : List Statement = map var_statement v.vars ++ init in
+    let vars : List Statement = map Var v.vars ++ init in
     let lattice : List Statement = Lattice v.lattice ∷ vars in
     sym (behind View (v.name ∷ []) lattice
-    ∙ ap (λ (t : List ℕ). spelled View (v.name ∷ []) ++ t) (behind Lattice (v.lattice ∷ []) vars
-    ∙ ap (λ (t : List ℕ). spelled Lattice (v.lattice ∷ []) ++ t) (behind var_statement v.vars init
-    ∙ ap (λ (t : List ℕ). spelled var_statement v.vars ++ t) (behind Init (named_guard v.vars v.init ∷ []) props
-    ∙ ap (λ (t : List ℕ). spelled Init (named_guard v.vars v.init ∷ []) ++ t) (behind (prop_statement v.vars) v.props (map (command_statement v.vars) v.commands)
-    ∙ ap (λ (t : List ℕ). spelled (prop_statement v.vars) v.props ++ t) (last_kind (command_statement v.vars) v.commands)))))
-    ∙ grouped (spelled View (v.name ∷ [])) (spelled Lattice (v.lattice ∷ [])) (spelled var_statement v.vars) (spelled Init (named_guard v.vars v.init ∷ [])) (spelled (prop_statement v.vars) v.props) (spelled (command_statement v.vars) v.commands))
+    ∙ ap (λ (t : List ℕ). written View (v.name ∷ []) ++ t) (behind Lattice (v.lattice ∷ []) vars
+    ∙ ap (λ (t : List ℕ). written Lattice (v.lattice ∷ []) ++ t) (behind Var v.vars init
+    ∙ ap (λ (t : List ℕ). written Var v.vars ++ t) (behind Init (named_guard v.vars v.init ∷ []) props
+    ∙ ap (λ (t : List ℕ). written Init (named_guard v.vars v.init ∷ []) ++ t) (behind (prop_statement v.vars) v.props (map (command_statement v.vars) v.commands)
+    ∙ ap (λ (t : List ℕ). written (prop_statement v.vars) v.props ++ t) (last_kind (command_statement v.vars) v.commands)))))
+    ∙ grouped (written View (v.name ∷ [])) (written Lattice (v.lattice ∷ [])) (written Var v.vars) (written Init (named_guard v.vars v.init ∷ [])) (written (prop_statement v.vars) v.props) (written (command_statement v.vars) v.commands))
   where
     grouped : (a b c d e f : List ℕ) → a ++ (b ++ (c ++ (d ++ (e ++ f)))) ≡ ((((a ++ b) ++ c) ++ d) ++ e) ++ f
     grouped a b c d e f = sym (simp append_assoc)
@@ -142,10 +120,10 @@ commands_printed v vars commands h e f =
     ap (λ (ds : List Domain). list_all (is_command_printed ds) commands) e ∙ commands_there v commands (ap (list_all (is_command_in v)) f ∙ (are_there v h).commands)
 
 -- the texts one after another
-pub printed : (v : ViewValue) (name file : List ℕ) (vars lent : List Domain) (init : Test) (props : List PropValue) (commands : List CommandValue) (t0 t1 t2 t3 t4 t5 t6 : List ℕ)
-    → name ≡ v.name → file ≡ v.lattice → vars ≡ v.vars → lent ≡ v.vars → init ≡ v.init → props ≡ v.props → commands ≡ v.commands
-    → t0 ≡ [] → t1 ≡ t0 ++ spelled View (name ∷ []) → t2 ≡ t1 ++ spelled Lattice (file ∷ []) → t3 ≡ t2 ++ spelled var_statement lent
-    → t4 ≡ t3 ++ spelled Init (named_guard vars init ∷ []) → t5 ≡ t4 ++ spelled (prop_statement vars) props → t6 ≡ t5 ++ spelled (command_statement vars) commands
+pub whole_printed : (v : ViewValue) (name file : List ℕ) (vars : List Domain) (init : Test) (props : List PropValue) (commands : List CommandValue) (t0 t1 t2 t3 t4 t5 t6 : List ℕ)
+    → name ≡ v.name → file ≡ v.lattice → vars ≡ v.vars → init ≡ v.init → props ≡ v.props → commands ≡ v.commands
+    → t0 ≡ [] → t1 ≡ t0 ++ written View (name ∷ []) → t2 ≡ t1 ++ written Lattice (file ∷ []) → t3 ≡ t2 ++ written Var vars
+    → t4 ≡ t3 ++ written Init (named_guard vars init ∷ []) → t5 ≡ t4 ++ written (prop_statement vars) props → t6 ≡ t5 ++ written (command_statement vars) commands
     → t6 ≡ canonical (view_lines v)
-printed v name file vars lent init props commands t0 t1 t2 t3 t4 t5 t6 n f d l i p c e0 e1 e2 e3 e4 e5 e6 =
-    rw (e6, e5, e4, e3, e2, e1, e0, n, f, d, l, i, p, c) (whole_text v)
+whole_printed v name file vars init props commands t0 t1 t2 t3 t4 t5 t6 n f d i p c e0 e1 e2 e3 e4 e5 e6 =
+    rw (e6, e5, e4, e3, e2, e1, e0, n, f, d, i, p, c) (whole_text v)

@@ -1,5 +1,5 @@
 -- The lines of a view's canonical text are cut again, and are read as the view.
-use Rattle.std.proofs.Common.{◌≡◌, ℕ, ◌≤◌, true, nat_le, List, [], ◌∷◌, ◌++◌, map, length, None, codes, refl, sym, ◌∙◌, ap, subst, arith}
+use Rattle.std.proofs.Common.{◌≡◌, ℕ, ◌≤◌, true, ◌&&◌, nat_lt, nat_le, List, [], ◌∷◌, ◌++◌, map, length, None, codes, refl, sym, ◌∙◌, ap, subst, arith}
 use Rattle.std.specs.List.{list_all}
 use Rattle.std.proofs.lemmas.Bool.{and_parts, and_from}
 use Rattle.xc_base.specs.Canonical.{canonical, is_line, is_short}
@@ -10,7 +10,9 @@ use Rattle.xc_base.specs.Words.{is_word, is_name}
 use Rattle.xc_base.proofs.CanonicalTexts.{canonical_is_cut, canonical_is_sound}
 use Rattle.xc_expr_text.specs.LineParts.{IsLinePart}
 use Rattle.xc_expr.specs.Written.{Sum, depth_limit}
-use Rattle.xc_forms.specs.VariableNames.{is_value_name}
+use Rattle.xc_forms.specs.FaultlessLines.{AreFaultless}
+use Rattle.xc_forms.specs.VariableLines.{var_tokens}
+use Rattle.xc_forms.specs.VariableNames.{is_variable_name, is_value_name}
 use Rattle.xc_expr_text.proofs.LineParts.{word_part, both_parts, spelled_part, actions_are_line_parts}
 use Rattle.xc_expr_text.proofs.PrintedTexts.{part_line}
 use Rattle.xc_view.specs.Parts.{is_sound}
@@ -20,7 +22,6 @@ use Rattle.xc_view_lines.specs.ViewLines.{Statement, IsStated}
 use Rattle.xc_view_lines.specs.ViewLines.IsStated.{view, lattice, var, init, prop, command}
 use Rattle.xc_view.specs.Writable.{is_writable}
 use Rattle.xc_view_text.proofs.Again.{all_faultless, reads_again}
-use Rattle.xc_view_text.proofs.Restating.{AreFaultless}
 
 -- words as a part of a line
 words_part : (ws : List (List ℕ)) → list_all is_word ws ≡ true → IsLinePart ws
@@ -42,9 +43,11 @@ values_words (w ∷ ws) h =
 stated_line : (tokens : List (List ℕ)) (s : Statement) → IsStated tokens s → is_line tokens ≡ true
 stated_line _ _ (view name h) = part_line (codes "view" ∷ name ∷ []) (omega arith) (words_part (codes "view" ∷ name ∷ []) (rw (name_word name h) refl))
 stated_line _ _ (lattice file h) = part_line (codes "lattice" ∷ file ∷ []) (omega arith) (words_part (codes "lattice" ∷ file ∷ []) (rw ((and_parts (is_word file) (nat_le (length file) 255) h).0) refl))
-stated_line _ _ (var name value values h k) =
-    let words = and_from (is_word name) (list_all is_word (value ∷ values)) (name_word name (and_parts (is_name name) _ h).0) (values_words (value ∷ values) k) in
-    part_line (codes "var" ∷ name ∷ value ∷ values) (omega arith) (words_part (codes "var" ∷ name ∷ value ∷ values) words)
+stated_line _ _ (var d h) =
+    let parts = and_parts (is_variable_name d.name) (nat_lt 0 (length d.values) && list_all is_value_name d.values) h in
+    let values = and_parts (nat_lt 0 (length d.values)) (list_all is_value_name d.values) parts.1 in
+    let words = and_from (is_word d.name) (list_all is_word d.values) (name_word d.name (and_parts (is_name d.name) _ parts.0).0) (values_words d.values values.1) in
+    part_line (var_tokens d) (omega arith) (words_part (var_tokens d) words)
 stated_line _ _ (init tokens guard g) =
     part_line (codes "init" ∷ tokens) (omega arith) (both_parts (codes "init" ∷ []) tokens (word_part (codes "init") refl) (spelled_part Sum depth_limit tokens guard g))
 stated_line _ _ (prop name value tokens guard n v g) =
@@ -59,7 +62,7 @@ stated_line _ _ (command name value tokens more guard action n v g a) =
     (both_parts tokens (codes "do" ∷ more) (spelled_part Sum depth_limit tokens guard g) (both_parts (codes "do" ∷ []) more (word_part (codes "do") refl) back)))
 
 -- so are those of faultless statements
-faultless_lines : (before ss : List Statement) → AreFaultless before ss → list_all is_line (map spelling ss) ≡ true
+faultless_lines : (before ss : List Statement) → AreFaultless view_format spelling before ss → list_all is_line (map spelling ss) ≡ true
 faultless_lines before [] h = refl
 faultless_lines before (s ∷ more) h = and_from (is_line (spelling s)) (list_all is_line (map spelling more)) (stated_line (spelling s) s h.0.due.stated) (faultless_lines (before ++ s ∷ []) more h.1)
 

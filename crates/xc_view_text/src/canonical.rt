@@ -6,10 +6,10 @@ ghost use Rattle.xc_base.specs.Lines.{texts};
 ghost use Rattle.xc_expr.specs.Tests.{test_of, is_in_range};
 ghost use Rattle.xc_expr.specs.Actions.{is_action_in_range};
 ghost use Rattle.xc_expr_text.specs.Printing.{named_guard};
-ghost use Rattle.xc_view_lines.specs.ViewLines.{View as ViewLine, Lattice as LatticeLine, Init as InitLine};
+ghost use Rattle.xc_view_lines.specs.ViewLines.{View as ViewLine, Lattice as LatticeLine, Var as VarLine, Init as InitLine};
 ghost use Rattle.xc_view.specs.Parts.{prop_value, command_value};
-ghost use Rattle.xc_view.specs.Printing.{spelling, var_statement, prop_statement, command_statement};
-ghost use Rattle.xc_view_text.specs.Spelled.{spelled, is_prop_printed, is_command_printed};
+ghost use Rattle.xc_view.specs.Printing.{spelling, prop_statement, command_statement};
+ghost use Rattle.xc_view_text.specs.Spelled.{written, is_prop_printed, is_command_printed};
 ghost use Rattle.std.specs.Prelude.{ℕ, None, ◌≤◌, length};
 ghost use Rattle.xc_base.specs.Canonical.{canonical, is_short};
 ghost use Rattle.xc_base.specs.Formats.{IsAccepted};
@@ -23,81 +23,44 @@ use std::alloc::Global;
 use xc_base::{Bytes, Lexeme, List, Memory, Word, push_line};
 use xc_expr::Guard;
 use xc_expr_text::{push_action, push_guard};
-use xc_forms::{Domain, Vars};
+use xc_forms::{Vars, lexeme, push_vars, word};
 use xc_view::{Command, PropLine, View};
 
-fn word<'a>(text: &'a [u8]) -> Lexeme<'a>
-    ensures { result.text.now ≡ text.now }
-{
-    Lexeme { text, word: true }
-}
-
-fn lexeme<'a>(word: &'a Word) -> Lexeme<'a>
-    ensures { result.text.now ≡ word.now }
-{
-    Lexeme {
-        text: word.as_str().as_bytes(),
-        word: true,
-    }
-}
-
-#[tactic(auto, unfolding(crate::specs::Spelled::spelled))]
+#[tactic(auto, unfolding(xc_forms::specs::PrintedLines::written))]
 fn push_name(text: &mut Bytes, name: &Word) -> Result<(), Memory>
-    ensures { OnOk result (text.new ≡ text.old ++ spelled ViewLine (name.now ∷ [])) }
+    ensures { OnOk result (text.new ≡ text.old ++ written ViewLine (name.now ∷ [])) }
 {
     push_line(text, &[word(b"view"), lexeme(name)])
 }
 
-#[tactic(auto, unfolding(crate::specs::Spelled::spelled))]
+#[tactic(auto, unfolding(xc_forms::specs::PrintedLines::written))]
 fn push_lattice(text: &mut Bytes, file: &Word) -> Result<(), Memory>
-    ensures { OnOk result (text.new ≡ text.old ++ spelled LatticeLine (file.now ∷ [])) }
+    ensures { OnOk result (text.new ≡ text.old ++ written LatticeLine (file.now ∷ [])) }
 {
     push_line(text, &[word(b"lattice"), lexeme(file)])
 }
 
-#[tactic(auto, using(crate::proofs::Printing::words_from, crate::proofs::Printing::words_end))]
-fn push_words<'a>(tokens: &mut List<Lexeme<'a>>, words: &'a [Word]) -> Result<(), Memory>
-    ensures { OnOk result (texts tokens.new ≡ texts tokens.old ++ words.now) }
+#[tactic(auto, using(crate::proofs::Printing::vars_lines))]
+fn push_var_lines(alloc: Global, text: &mut Bytes, vars: &Vars) -> Result<(), Memory>
+    ensures { OnOk result (text.new ≡ text.old ++ written VarLine vars.now) }
 {
-    for x in words {
-        tokens.push(lexeme(x))?;
-    }
-    Ok(())
+    push_vars(alloc, text, vars.as_slice())
 }
 
-#[tactic(auto, unfolding(crate::specs::Spelled::spelled))]
-fn push_var(alloc: Global, text: &mut Bytes, domain: &Domain) -> Result<(), Memory>
-    ensures { OnOk result (text.new ≡ text.old ++ spelled var_statement (domain.now ∷ [])) }
-{
-    let mut tokens = List::of(alloc, &[word(b"var"), lexeme(&domain.name)])?;
-    push_words(&mut tokens, domain.values.as_slice())?;
-    push_line(text, tokens.as_slice())
-}
-
-#[tactic(auto, using(std::proofs::lemmas::Grind::common_steps, crate::proofs::Printing::vars_from, crate::proofs::Printing::vars_end))]
-fn push_vars(alloc: Global, text: &mut Bytes, vars: &[Domain]) -> Result<(), Memory>
-    ensures { OnOk result (text.new ≡ text.old ++ spelled var_statement vars.now) }
-{
-    for domain in vars {
-        push_var(alloc, text, domain)?;
-    }
-    Ok(())
-}
-
-#[tactic(auto, unfolding(crate::specs::Spelled::spelled))]
+#[tactic(auto, unfolding(xc_forms::specs::PrintedLines::written))]
 fn push_init(alloc: Global, text: &mut Bytes, vars: &Vars, init: &Guard) -> Result<(), Memory>
     requires { is_in_range vars.now (test_of init.now) ≡ true }
-    ensures { OnOk result (text.new ≡ text.old ++ spelled InitLine (named_guard vars.now (test_of init.now) ∷ [])) }
+    ensures { OnOk result (text.new ≡ text.old ++ written InitLine (named_guard vars.now (test_of init.now) ∷ [])) }
 {
     let mut tokens = List::of(alloc, &[word(b"init")])?;
     push_guard(alloc, &mut tokens, init, vars)?;
     push_line(text, tokens.as_slice())
 }
 
-#[tactic(auto, unfolding(crate::specs::Spelled::spelled))]
+#[tactic(auto, unfolding(xc_forms::specs::PrintedLines::written))]
 fn push_prop(alloc: Global, text: &mut Bytes, vars: &Vars, line: &PropLine) -> Result<(), Memory>
     requires { is_prop_printed vars.now line.now ≡ true }
-    ensures { OnOk result (text.new ≡ text.old ++ spelled (prop_statement vars.now) (prop_value line.now ∷ [])) }
+    ensures { OnOk result (text.new ≡ text.old ++ written (prop_statement vars.now) (prop_value line.now ∷ [])) }
 {
     let (name, value) = (lexeme(&line.name), lexeme(&line.value));
     let mut tokens = List::of(alloc, &[word(b"prop"), name, value, word(b"when")])?;
@@ -113,7 +76,7 @@ fn push_props(
     lines: &[PropLine],
 ) -> Result<(), Memory>
     requires { list_all (is_prop_printed vars.now) lines.now ≡ true }
-    ensures { OnOk result (text.new ≡ text.old ++ spelled (prop_statement vars.now) (map prop_value lines.now)) }
+    ensures { OnOk result (text.new ≡ text.old ++ written (prop_statement vars.now) (map prop_value lines.now)) }
 {
     for line in lines {
         push_prop(alloc, text, vars, line)?;
@@ -138,7 +101,7 @@ fn command_tokens<'a>(
     Ok(tokens)
 }
 
-#[tactic(auto, unfolding(crate::specs::Spelled::spelled))]
+#[tactic(auto, unfolding(xc_forms::specs::PrintedLines::written))]
 fn push_command(
     alloc: Global,
     text: &mut Bytes,
@@ -146,7 +109,7 @@ fn push_command(
     command: &Command,
 ) -> Result<(), Memory>
     requires { is_command_printed vars.now command.now ≡ true }
-    ensures { OnOk result (text.new ≡ text.old ++ spelled (command_statement vars.now) (command_value command.now ∷ [])) }
+    ensures { OnOk result (text.new ≡ text.old ++ written (command_statement vars.now) (command_value command.now ∷ [])) }
 {
     let tokens = command_tokens(alloc, vars, command)?;
     push_line(text, tokens.as_slice())
@@ -160,7 +123,7 @@ fn push_commands(
     commands: &[Command],
 ) -> Result<(), Memory>
     requires { list_all (is_command_printed vars.now) commands.now ≡ true }
-    ensures { OnOk result (text.new ≡ text.old ++ spelled (command_statement vars.now) (map command_value commands.now)) }
+    ensures { OnOk result (text.new ≡ text.old ++ written (command_statement vars.now) (map command_value commands.now)) }
 {
     for command in commands {
         push_command(alloc, text, vars, command)?;
@@ -179,7 +142,7 @@ pub fn print(alloc: Global, view: &View) -> Result<Bytes, Memory>
     let mut text = List::new(alloc);
     push_name(&mut text, view.name())?;
     push_lattice(&mut text, view.lattice())?;
-    push_vars(alloc, &mut text, vars.as_slice())?;
+    push_var_lines(alloc, &mut text, vars)?;
     push_init(alloc, &mut text, vars, view.init())?;
     push_props(alloc, &mut text, vars, view.props().as_slice())?;
     push_commands(alloc, &mut text, vars, view.commands().as_slice())?;
