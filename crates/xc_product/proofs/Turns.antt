@@ -133,7 +133,7 @@ module _ (tables : List AnyTable) (i : ℕ) (t : AnyTable) (within : i < length 
         pub bound_turn : (which : Bound) (r : ℕ) → r ≡ bound_of which (alone t) da db → r * w + bound_of which (from tables (i + 1)) ra rb ≡ bound_of which (from tables i) a b
         bound_turn which r er =
             rw (er, weighs, ea, fa, eb, fb, bound_alone which (lattice_in_any t) (a / weight tables i) (b / weight tables i))
-              (sym (ap (λ (o : Operations). bound_of which o a b) turn ∙ bound_in_pair which (single (lattice_in_any t)) (from tables (i + 1)) a b))
+            (sym (ap (λ (o : Operations). bound_of which o a b) turn ∙ bound_in_pair which (single (lattice_in_any t)) (from tables (i + 1)) a b))
 
         pub below_turn : (r : Bool) → r ≡ (alone t).below da db → (r && (from tables (i + 1)).below ra rb) ≡ (from tables i).below a b
         below_turn r er =

@@ -27,8 +27,8 @@ loop-part-preserved c =
       bounded = omega (
         arith,
         bound_turn c.args.self.now.tables c.loop-part.part c.get.result.now (omega arith) c.get.ensures (get_or c.args.self.now.weights c.loop-part.part 0) (c.args.self.now.holds.weighted c.loop-part.part (omega arith))
-          c.loop-part.left c.split-first.result.digit c.split-first.result.rest c.split-first.ensures.digit c.split-first.ensures.rest
-          c.loop-part.right c.split-second.result.digit c.split-second.result.rest c.split-second.ensures.digit c.split-second.ensures.rest c.args.which c.bound_in_part-digit.result c.bound_in_part-digit.ensures,
+            c.loop-part.left c.split-first.result.digit c.split-first.result.rest c.split-first.ensures.digit c.split-first.ensures.rest
+            c.loop-part.right c.split-second.result.digit c.split-second.result.rest c.split-second.ensures.digit c.split-second.ensures.rest c.args.which c.bound_in_part-digit.result c.bound_in_part-digit.ensures,
       );
     }
 
